@@ -148,6 +148,8 @@ def short_suspicions_are_told(program):
     Each of these changes is told, in a line of its own and in order."""
     with Lone(program, "--follow", "--until-input-ends", has_input=True) as node:
         node.tell(0)
+        # Its watcher tells each change behind its first look, which is late if the machine is busy.
+        time.sleep(0.5)
         for incarnation in range(UNASKED):
             node.accuse(incarnation)
             node.tell(incarnation + 1)

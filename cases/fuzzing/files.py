@@ -147,11 +147,12 @@ def meaning_of(document):
     must(is_name(values["name"].encode(errors="replace")) and address and 1 <= values["port"] <= 65535
          and values["dice"] >= 0 and None not in seeds, VALUE)
     fault = fault_of(values, values["name"], [name for name, _ in seeds])
-    must(fault is None, fault)
+    must(fault is None or fault > KEY_FILE, fault)
     for key, (least, most, _, number) in OWN_NUMBERS.items():
         must(least <= values[key] <= most, number)
     values["status"], values["status_open"] = status_of(document)
     values["key_file"] = key_file_of(document)
+    must(fault is None, fault)
     return values | {"address": ".".join(map(str, address)), "seeds": seeds}
 
 

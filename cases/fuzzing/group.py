@@ -1,12 +1,13 @@
-"""A random group of the models of detectors: what its network loses, doubles and delays, who stands still, dies or is
-started again, and who is cut off. It writes the script that plays the same."""
+"""A random group of the models of detectors: what its network loses, doubles and delays, who stands still, leaves, dies
+or is started again, and who is cut off. It writes the script that plays the same."""
 
 import heapq
 from dataclasses import dataclass, field
 
+from fuzzing.known import GONE
 from fuzzing.numbers import suspicion_range
 from fuzzing.script import MOST_MEMBERS, Cluster
-from fuzzing.wire import ALIVE, FAILED, ONE, THREE, TWO, VERSIONS
+from fuzzing.wire import ALIVE, ONE, THREE, TWO, VERSIONS
 
 FIRST_PORT = 7001
 MOST_SEEDS = 16
@@ -66,13 +67,14 @@ def config_of(dice, size):
 
 
 def troubles_of(dice, names, length, may_restart):
-    """Pauses, cuts, deaths and new starts of some members within so many milliseconds."""
+    """Pauses, cuts, leaves, deaths and new starts of some members within so many milliseconds. Of those who leave some
+    go on, some end soon, and of these some are started again."""
     troubles = []
     for _ in range(dice.choice([0, 1, 1, 2, 1 + len(names) // 4])):
         start = dice.randrange(length)
         end = dice.randrange(start, length) + 1
         name = dice.choice(names)
-        how = dice.choice(["pause", "cut", "restart" if may_restart else "pause", "death"])
+        how = dice.choice(["pause", "cut", "restart" if may_restart else "pause", "death", "leave", "leave"])
         if how == "pause":
             troubles.append((start, "pause", name, end))
         elif how == "cut":
@@ -80,6 +82,10 @@ def troubles_of(dice, names, length, may_restart):
             troubles += [(start, "cut", side), (end, "cut", frozenset())]
         elif how == "restart":
             troubles += [(start, "die", name), (end, "start", name)]
+        elif how == "leave":
+            ends = [(start + 1, "die", name)] if dice.random() < 0.6 else []
+            ends += [(end + 1, "start", name)] if ends and may_restart and dice.random() < 0.6 else []
+            troubles += [(start, "leave", name), *ends]
         elif dice.random() < 0.3:
             troubles.append((start, "die", name))
     return troubles
@@ -92,7 +98,8 @@ def plan_of(dice, size, names, may_restart):
     rounds = dice.choice([5, 10, 20]) if size <= MOST_MEMBERS else dice.choice([3, 6])
     if dice.random() < 1 / 6:
         network = Network(0, dice.choice([0, 0.2]), 1, wait // 4, dice.choice([0, 0.5]), rounds * interval)
-        return Plan(size, config, network, rounds, is_perfect=True)
+        leaves = [(dice.randrange(rounds * interval), "leave", name) for name in names if dice.random() < 0.15]
+        return Plan(size, config, network, rounds, troubles=leaves, is_perfect=True)
     network = Network(dice.choice([0, 0.1, 0.3, 0.6]), dice.choice([0, 0, 0.2]), dice.choice([1, wait // 4]),
                       dice.choice([wait // 4, wait, 2 * interval]), dice.choice([0, 0, 0.1, 0.5]), rounds * interval)
     plan = Plan(size, config, network, rounds, dice.choice([0, 0, 0.3]), dice.choice([0, 1, wait // 5]))
@@ -169,6 +176,10 @@ class Group:
             self.tick_at.pop(name, None)
             self.event(name, f"open {name} {self.port(name)} {self.now} {self.seeds[name]}".rstrip())
 
+    def leave(self, name):
+        if name in self.alive:
+            self.event(name, f"leave {name} {self.now} {self.words()}".rstrip())
+
     def die(self, name):
         self.alive.discard(name)
 
@@ -178,11 +189,14 @@ class Group:
     def cut(self, side):
         self.network.side = side
 
+    def words(self):
+        """One random word or eight."""
+        return " ".join(str(self.dice.randrange(2**32)) for _ in range(self.dice.choice([1, 8])))
+
     def tick(self, name, due):
         if name in self.alive and self.tick_at.get(name) == due:
             del self.tick_at[name]
-            words = " ".join(str(self.dice.randrange(2**32)) for _ in range(self.dice.choice([1, 8])))
-            self.event(name, f"tick {name} {self.now} {words}")
+            self.event(name, f"tick {name} {self.now} {self.words()}")
 
     def hear(self, name, number):
         if name in self.alive:
@@ -197,7 +211,7 @@ class Group:
         while self.queue and self.queue[0][0] < end:
             moment, count, (does, *words) = heapq.heappop(self.queue)
             self.now = max(self.now, moment)
-            still = self.still_until.get(words[0], 0) if does in ("tick", "hear", "pull") else 0
+            still = self.still_until.get(words[0], 0) if does in ("tick", "hear", "pull", "leave") else 0
             if still > self.now:
                 heapq.heappush(self.queue, (still, count, (does, *words)))
             else:
@@ -224,26 +238,28 @@ class Group:
         self.run_until(length)
 
     def agrees(self):
-        """Whether all that live say the same of all: each living one is alive at its own incarnation and address, and
-        each other one has failed at the same one. If nobody lives, nobody differs."""
+        """Whether all that run say the same of all: each that runs and didn't leave is alive at its own incarnation and
+        address, and each other one is gone at the same one. If nobody runs, nobody differs."""
         views = [{it.member: it for it in self.member(name).view()} for name in self.alive]
         if not views:
             return True
-        if any(view.keys() != views[0].keys() for view in views) or not self.alive_names() <= views[0].keys():
+        here = self.those_here()
+        if any(view.keys() != views[0].keys() for view in views) or not here <= views[0].keys():
             return False
         for name in views[0]:
             records = [view[name] for view in views]
-            if name in self.alive_names():
+            if name in here:
                 wanted = self.member(name.decode()).own()
                 if any((it.status, it.incarnation, it.address) != (ALIVE, wanted.incarnation, wanted.address)
                        for it in records):
                     return False
-            elif any((it.status, it.incarnation) != (FAILED, records[0].incarnation) for it in records):
+            elif any(it.status not in GONE or it.incarnation != records[0].incarnation for it in records):
                 return False
         return True
 
-    def alive_names(self):
-        return {name.encode() for name in self.alive}
+    def those_here(self):
+        """The names of those that run and didn't leave."""
+        return {name.encode() for name in self.alive if not self.member(name).has_left}
 
     def most_steps(self):
         """How many rounds of quiet a group may take: its members have asked each other, their scores are well again,

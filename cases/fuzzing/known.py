@@ -32,7 +32,7 @@ class Known:
     def __init__(self, name, address, now, config):
         self.name, self.address, self.config, self.now = name, address, config, now
         self.number = self.score = 0
-        self.ousted = False
+        self.ousted = self.has_left = False
         self.records, self.queue, self.suspicions = {}, {}, {}
         # The deadline of each timer that is set, by its kind and by whom it is about.
         self.timers = {(ROUND_START, 0): now}
@@ -40,7 +40,7 @@ class Known:
     # ---- What is known
 
     def own(self):
-        return Claim(ALIVE, self.name, self.address, self.number)
+        return Claim(LEFT if self.has_left else ALIVE, self.name, self.address, self.number)
 
     def view(self):
         """All records, in the order of names."""
@@ -101,6 +101,16 @@ class Known:
 
     def take_own(self, claim):
         """Hears a claim about this member."""
+        return self.stay_left(claim) if self.has_left else self.refute(claim)
+
+    def stay_left(self, claim):
+        """Hears a claim about this member after it left. A greater incarnation becomes its own."""
+        if claim.incarnation > self.number:
+            self.number = claim.incarnation
+            self.tell(self.own())
+
+    def refute(self, claim):
+        """Hears a claim about this member, which hasn't left."""
         if self.doubts(claim):
             return self.oppose()
         is_older = claim.incarnation <= self.number if claim.status == ALIVE else claim.incarnation < self.number

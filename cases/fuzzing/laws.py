@@ -24,13 +24,15 @@ class Witness:
     """Follows the events of a group, and notes what breaks a law.
 
     `known` has what each member knows of others, the incarnation and the status. `accused` has who had a round without
-    an Ack of whom, at which incarnation. `failed` has whose suspicion ran out at which incarnation.
+    an Ack of whom, at which incarnation. `failed` has whose suspicion ran out at which incarnation. `left` has who left
+    ever, and `leavers` those of them who weren't started again.
     """
 
     def __init__(self):
         self.faults, self.names, self.sent = [], {}, []
         self.known, self.probes = {}, {}
         self.accused, self.failed = set(), set()
+        self.left, self.leavers = set(), set()
 
     def note(self, fault):
         self.faults.append(fault)
@@ -40,6 +42,10 @@ class Witness:
         if lines[0][0] == "nobody":
             return
         name = self.opened(words) if words[0] == "open" else words[1]
+        if words[0] == "leave":
+            self.left.add(name)
+            self.leavers.add(name)
+            self.probes.pop(name, None)
         if words[0] == "deliver":
             sender, to, packet = self.sent[int(words[1]) - 1]
             name = self.names[to]
@@ -57,6 +63,8 @@ class Witness:
             # The probe, with its number, its target, who may answer, and whether an Ack came.
             self.probes[name] = [packets[0][1].number, packets[0][1].target.decode(), set(), False]
             self.probes[name][2].add(self.probes[name][1])
+            if name in self.leavers:
+                self.note(f"{name} has left, and probes {self.probes[name][1]}")
 
     def opened(self, words):
         """A member is opened, or started again from nothing."""
@@ -65,6 +73,7 @@ class Witness:
         self.known[name] = {seed.partition(":")[0]: (0, "alive") for seed in words[4:]}
         self.known[name][name] = (0, "alive")
         self.probes.pop(name, None)
+        self.leavers.discard(name)
         return name
 
     def hear(self, name, _, packet):
@@ -93,10 +102,13 @@ class Witness:
         self.judge(name, member, status, incarnation, accuser)
 
     def judge(self, name, member, status, incarnation, accuser):
-        """A member says that another is suspected or has failed: somebody had a reason."""
+        """A member says that another is suspected, has failed or left: somebody had a reason. The first two versions
+        tell that one failed who left."""
+        if status == "left" and member not in self.left:
+            self.note(f"{name} says that {member} left, and it didn't")
         if status == "suspect" and (accuser, member, incarnation) not in self.accused:
             self.note(f"{name} says that {accuser} suspects {member} at {incarnation}, after no round without an Ack")
-        if status == "failed" and (member, incarnation) not in self.failed:
+        if status == "failed" and (member, incarnation) not in self.failed and member not in self.left:
             self.note(f"{name} says that {member} failed at {incarnation}, and no suspicion of it ran out")
 
     def send(self, name, to, packet):
@@ -112,11 +124,12 @@ class Witness:
 
 
 def broken_laws(script, output, is_perfect=False):
-    """What of a script and its output breaks a law. In a perfect network nobody is suspected at all."""
+    """What of a script and its output breaks a law. In a perfect network nobody is suspected at all but leavers."""
     witness = Witness()
     for words, lines in events_of(script, output):
         witness.take(words, lines)
     if is_perfect:
-        doubted = [it for it in output if it.startswith("record ") and it.split(" ")[2] != "alive"]
+        doubted = [it for it in output if it.startswith("record ") and it.split(" ")[2] != "alive"
+                   and it.split(" ")[1] not in witness.left]
         witness.faults += [f"nothing was lost or late: {it}" for it in doubted[:1]]
     return witness.faults

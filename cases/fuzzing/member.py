@@ -11,6 +11,8 @@ from fuzzing.wire import (
 
 MOST_RELAYS = 64
 WORDS = 8
+# To how many a member says that it leaves.
+MOST_TOLD = 8
 # With whose record an Ack to such a member begins, in version three.
 ACK_BUDDIES = (SUSPECT, FAILED)
 
@@ -73,9 +75,12 @@ class Member(Known):
         buddies = ACK_BUDDIES if self.has_version_three() else ()
         self.send(to, ACK, number, claims=self.claims_for(receiver, buddies), receiver=receiver)
 
+    def own_claims(self):
+        """The claims of a packet that has this member's own record alone, if that can be told."""
+        return (self.own(),) if self.can_tell(self.address) else ()
+
     def send_pull(self, to, after):
-        own = self.own()
-        self.send(to, PULL, target=after, claims=(own,) if self.can_tell(own.address) else ())
+        self.send(to, PULL, target=after, claims=self.own_claims())
 
     def send_page(self, to, after):
         rest = [record for record in self.view() if record.member > after and self.can_tell(record.address)]
@@ -113,6 +118,9 @@ class Member(Known):
     def pull(self, now, peer):
         return self.event(now, self.send_pull, peer, b"")
 
+    def leave(self, now, words):
+        return self.event(now, self.leave_once, [*words, *[0] * (WORDS - len(words))])
+
     def answer_status(self, name):
         record = self.own() if name == self.name else self.records.get(name)
         self.reply.answer = record.text() if record else "none"
@@ -137,11 +145,15 @@ class Member(Known):
     def scaled(self, key):
         return self.config[key] * (self.score + 1)
 
+    def candidates(self):
+        """Whom rounds may choose: nobody once this member has left."""
+        return [] if self.has_left else self.others()
+
     def start_round(self, _, words):
-        candidates = [name for name in self.others() if name not in self.chosen]
+        candidates = [name for name in self.candidates() if name not in self.chosen]
         if not candidates:
             self.chosen = set()
-            candidates = self.others()
+            candidates = self.candidates()
         if not candidates:
             self.timers[ROUND_START, 0] = self.now + self.scaled("interval_ms")
             return
@@ -184,6 +196,26 @@ class Member(Known):
         self.timers.pop((RELAY_NACK, relay), None)
         self.timers.pop((RELAY_END, relay), None)
 
+    # ---- Leaving
+
+    def drop_probe(self):
+        """Ends the probe that runs, if one does. It accuses nobody."""
+        self.probe = None
+        self.timers.pop((DIRECT, 0), None)
+        self.timers.pop((ROUND_END, 0), None)
+
+    def leave_once(self, words):
+        """Leaves, unless this member has left. It tells some members by packets that take nothing of the queue."""
+        if self.has_left:
+            return
+        self.has_left = True
+        self.tell(self.own())
+        self.drop_probe()
+        self.timers.setdefault((ROUND_START, 0), self.now + self.scaled("interval_ms"))
+        kind = GOSSIP if self.has_version_three() else PAGE
+        for name in picked(words[:MOST_TOLD], self.others()):
+            self.send(self.records[name].address, kind, claims=self.own_claims())
+
     # ---- News
 
     def hearers(self):
@@ -193,7 +225,7 @@ class Member(Known):
     def set_news(self):
         """Sets the timer of news, unless it is set, if there is any and somebody to hear it."""
         wait = self.config["gossip_ms"] if self.has_version_three() else 0
-        if wait and (NEWS, 0) not in self.timers and self.others() and self.has_news():
+        if wait and (NEWS, 0) not in self.timers and self.live() > 1 and self.has_news():
             self.timers[NEWS, 0] = self.now + wait
 
     def tell_news(self, _, words):

@@ -50,16 +50,18 @@ class Groups(RunKind):
         (known, "MOST_CLAIMS", MOST_CLAIMS | {THREE: 6}),
         (member.Member, "mark", lambda *_: None), (member.Member, "accuse", lambda *_: None),
         (member.Member, "hear_nack", lambda *_: None), (numbers, "LOGARITHMS", numbers.LOGARITHMS | {10: 999}),
-        (member.Member, "has_news", lambda *_: True), (member.Member, "tell_arrival", lambda *_: None))
+        (member.Member, "has_news", lambda *_: True), (member.Member, "tell_arrival", lambda *_: None),
+        (member.Member, "stay_left", member.Member.refute), (member.Member, "drop_probe", lambda *_: None))
     # Detectors that break a law: the self-test runs small groups of them, and looks at the laws alone. One goes by
     # the status before the incarnation, one hears no Ack, one takes each suspect as failed at once, one refutes
-    # nothing, and one gossips to those who are gone.
+    # nothing, one gossips to those who are gone, and one probes after it left.
     lawless = (
         (wire.Claim, "rank", lambda it: (it.status, it.incarnation)),
         (member.Member, "hear_ack", lambda *_: None),
         (member.Member, "set_suspicion", lambda it, name: it.end_suspicion(name, None)),
         (member.Member, "take_own", lambda *_: None),
-        (member.Member, "hearers", lambda it: sorted(it.records)))
+        (member.Member, "hearers", lambda it: sorted(it.records)),
+        (member.Member, "candidates", lambda it: it.others()))
 
     def __init__(self, has_player=False):
         self.has_player = has_player

@@ -74,6 +74,11 @@ class Maker:
         words = [self.dice.choice([0, 1, self.dice.randrange(2**32)]) for _ in range(self.dice.choice([0, 1, 4, 8]))]
         return " ".join(["tick", word.decode(), *map(str, [now, *words])])
 
+    def leave(self):
+        """A leave, seldom the second of a member."""
+        words = [self.dice.choice([0, 1, self.dice.randrange(2**32)]) for _ in range(self.dice.choice([0, 1, 8]))]
+        return " ".join(["leave", self.name().decode(), *map(str, [self.moment(), *words])])
+
     def deliver(self):
         """A delivery, mostly of one of the packets that were sent last."""
         sent = len(self.cluster.sent)
@@ -98,6 +103,8 @@ class Maker:
                 if self.dice.random() < 0.5:
                     self.add(self.set_wire().encode())
                 line = self.open()
+            elif opened and self.dice.random() < 0.01:
+                line = self.leave()
             elif self.cluster.sent or self.dice.random() < 0.01:
                 line = self.dice.choice([self.tick, self.tick, self.deliver, self.deliver, self.question])()
             else:
@@ -136,7 +143,8 @@ class Scripts(RunKind):
     name = "scripts"
     # The last ones are about news: it is waited for though there is none, and goes to those who are gone; an arrival
     # isn't told, nor is a doubt opposed, or one at the own incarnation is; and an Ack begins with a record that is
-    # alive, or with none.
+    # alive, or with none. And they are about those who left: they probe or refute, and a leave ends no probe, or is
+    # told to seven.
     wrong_rules = (
         (script, "MOST_MEMBERS", 17), (script, "MOST_WORD", 2**32), (script, "MOST_MOMENT", 10**15 + 1),
         (script, "MOST_SEEDS", 15), (known, "MOST_CLAIMS", MOST_CLAIMS | {ONE: 5, TWO: 5}),
@@ -147,7 +155,9 @@ class Scripts(RunKind):
         (member.Member, "has_news", lambda *_: True), (member.Member, "hearers", lambda it: sorted(it.records)),
         (member.Member, "tell_arrival", lambda *_: None), (member.Member, "oppose", lambda *_: None),
         (member.Member, "doubts", doubts_itself), (member, "ACK_BUDDIES", (ALIVE, SUSPECT, FAILED)),
-        (member, "ACK_BUDDIES", ()))
+        (member, "ACK_BUDDIES", ()), (member.Member, "candidates", lambda it: it.others()),
+        (member.Member, "stay_left", member.Member.refute), (member.Member, "drop_probe", lambda *_: None),
+        (member, "MOST_TOLD", 7))
 
     def make(self, dice):
         maker = Maker(dice)

@@ -12,7 +12,7 @@ MOST_MOMENT = 1_000_000_000_000_000
 MOST_WORD = 4_294_967_295
 # How many words each command takes behind its own, at least and at most.
 COMMANDS = {b"set": (2, 2), b"open": (3, 10**9), b"tick": (2, 2 + WORDS), b"deliver": (2, 2), b"ask": (3, 3),
-            b"health": (2, 2), b"pull": (3, 3), b"table": (1, 1)}
+            b"health": (2, 2), b"pull": (3, 3), b"leave": (2, 2 + WORDS), b"table": (1, 1)}
 
 
 class LineFault(Exception):
@@ -153,6 +153,11 @@ class Cluster:
         word, now, at = name(word), moment(now), place(at)
         member = self.open_member(word)
         return self.replied(member, member.pull(now, at))
+
+    def run_leave(self, word, now, *words):
+        word, now, words = name(word), moment(now), [number(it, MOST_WORD) for it in words]
+        member = self.open_member(word)
+        return self.replied(member, member.leave(now, words))
 
     def run_table(self, word):
         return [f"record {record.text()}" for record in self.open_member(name(word)).view()]

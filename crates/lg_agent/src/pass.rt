@@ -6,7 +6,7 @@ ghost use Rattle.std.specs.Prelude.{◌≡◌, ◌⊎◌, Ok, Err, false, MatchR
 ghost use Rattle.lg_packet.specs.declared.fault.Fault.{Fault as Broken};
 ghost use Rattle.lg_packet.specs.declared.packet.Packet.{Packet as Read};
 ghost use Rattle.lg_packet.specs.Meaning.Reading.{packet_of};
-ghost use Rattle.lg_detector.specs.declared.event.Event.TheVariants.{Tick, Heard, Ask, Health, Pull};
+ghost use Rattle.lg_detector.specs.declared.event.Event.TheVariants.{Tick, Heard, Ask, Health, Pull, Leave};
 ghost use Rattle.lg_detector.specs.Meaning.Step.{is_open_event};
 ghost use Rattle.lg_agent.specs.declared.refusal.Refusal.TheVariants.{BadPacket, NoMemory};
 ghost use Rattle.lg_agent.specs.Meaning.Calls.{receipt_of, is_page, IsCall, IsRefusal, IsBadPacket, IsRotatedPass};
@@ -265,6 +265,43 @@ impl<'a, A: AgentName> Pass<'a, A> {
         ensures refusal { IfErr result (IsRefusal self.old.seen) }
     {
         self.call_into(rt, alloc, &Event::Pull { now, peer }, reply)
+    }
+
+    /// Leaves the group, for good (this project's choice). This member's own record becomes Left, it probes nobody any
+    /// more, and the reply has the packets that tell some members at once. A further leave tells nobody, and does
+    /// nothing but move the moment. The moment is in milliseconds, and each random word in turn picks a member that is
+    /// told. Refused if memory is refused or the history is full, and then nothing has changed.
+    pub fn leave<R: Wait>(
+        &mut self,
+        rt: &R,
+        alloc: Global,
+        now: Moment,
+        words: [u32; 8],
+    ) -> Result<Receipt, Refusal>
+        ensures answered { MatchResult result (λ r. IsCall self.old (Leave now words) r self.new)
+            (λ _. self.new ≡ self.old) }
+        ensures refusal { IfErr result (IsRefusal self.old.seen) }
+    {
+        let mut reply = Reply::default();
+        let place = self.leave_into(rt, alloc, now, words, &mut reply)?;
+        Ok(Receipt { place, reply })
+    }
+
+    /// As [`Pass::leave`], with the reply written over `reply`. Returns the position of the call's entry.
+    pub fn leave_into<R: Wait>(
+        &mut self,
+        rt: &R,
+        alloc: Global,
+        now: Moment,
+        words: [u32; 8],
+        reply: &mut Reply,
+    ) -> Result<u64, Refusal>
+        ensures answered { MatchResult result
+            (λ place. IsCall self.old (Leave now words) (receipt_of place reply.new) self.new)
+            (λ _. (self.new ≡ self.old) × (reply.new ≡ reply.old)) }
+        ensures refusal { IfErr result (IsRefusal self.old.seen) }
+    {
+        self.call_into(rt, alloc, &Event::Leave { now, words }, reply)
     }
 
     /// Cuts the stored entries off the history; a summary of all events so far is kept instead. Returns how many they

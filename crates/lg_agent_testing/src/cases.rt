@@ -20,6 +20,8 @@ pub struct Case<P> {
     pub others: u8,
     /// The port of c. Those of d and e follow.
     pub first_port: u16,
+    /// The version of what it sends, 1 to 3.
+    pub wire: u64,
     /// Whether everything is handed in at the first closing. If not, what the first pass left comes with the second.
     pub at_once: bool,
     /// What is done with its passes.
@@ -27,13 +29,14 @@ pub struct Case<P> {
 }
 
 impl<P: Copy> Case<P> {
-    /// An agent that knows nobody else and is closed at once, with room for 20,000 entries.
+    /// An agent that knows nobody else, sends in version 1 and is closed at once, with room for 20,000 entries.
     pub fn new(places: usize, play: P) -> Case<P> {
         Case {
             places,
             limit: 20_000,
             others: 0,
             first_port: 7003,
+            wire: 1,
             at_once: true,
             play,
         }
@@ -50,7 +53,8 @@ impl<P: Copy> Case<P> {
         requires book { book.seen.book ≡ A.book }
         requires places { (places ≡ A.places) × (0 < places) × (places ≤ 32) }
     {
-        let config = config_from(self.limit, self.others, self.first_port);
+        let mut config = config_from(self.limit, self.others, self.first_port);
+        config.wire = self.wire;
         open::<A, R>(rt, alloc, book, config, places)
     }
 

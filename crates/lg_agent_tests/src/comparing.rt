@@ -57,6 +57,13 @@ pub fn is_same_event(one: &Event, other: &Event) -> bool {
                 peer: stored,
             },
         ) => { now == then && peer == stored }
+        (
+            Event::Leave { now, words },
+            Event::Leave {
+                now: then,
+                words: stored,
+            },
+        ) => { now == then && words == stored }
         _ => false,
     }
 }

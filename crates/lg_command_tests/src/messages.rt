@@ -79,7 +79,7 @@ const PACKETS: &[(Fault, &str)] = &[
 const SCRIPTS: &[(ScriptFault, &str)] = &[
     (
         ScriptFault::Command,
-        "a line begins with set, open, tick, deliver, ask, health, pull or table",
+        "a line begins with set, open, tick, deliver, ask, health, pull, leave or table",
     ),
     (
         ScriptFault::Words,

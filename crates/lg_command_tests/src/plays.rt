@@ -73,9 +73,11 @@ pub const OTHERS: [Play; 3] = [
     },
     Play {
         command: Command::Sim,
-        input: "open a 7001 0 b:7002\nset beta 5\ntick a 0\ntable a\n",
+        input: "open a 7001 0 b:7002\nset beta 5\ntick a 0\nleave a 5\ntable a\n",
         text: "next 0\nfired round-start\nsend 1 127.0.0.1:7002 534c0101016100000001016200\nnext 500\n\
-            record a alive 0 127.0.0.1:7001\nrecord b alive 0 127.0.0.1:7002\n",
+            send 2 127.0.0.1:7002 534c01060161010301617f0000011b5900000000\n\
+            record a left 0 127.0.0.1:7001\nnext 1005\n\
+            record a left 0 127.0.0.1:7001\nrecord b alive 0 127.0.0.1:7002\n",
         status: 0,
     },
 ];

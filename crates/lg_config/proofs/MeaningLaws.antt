@@ -1,14 +1,15 @@
 -- What settings mean, by those with the first of their seeds.
-use Rattle.std.proofs.Common.{◌≡◌, ℕ, ◌<◌, ◌≤◌, Bool, true, false, if◌then◌else◌, List, length, leb, Option, Some, None, option_and_then, option_map, Result, Ok, Err, IfOk, refl, ap, sym, ◌∙◌, arith}
+use Rattle.std.proofs.Common.{◌≡◌, ℕ, ◌<◌, ◌≤◌, Bool, true, false, if◌then◌else◌, List, length, leb, nat_lt, Option, Some, None, option_and_then, option_map, Result, Ok, Err, IfOk, refl, ap, sym, ◌∙◌, arith}
 use Rattle.std.proofs.lemmas.Bool.Decides.{nat_tests}
 use Rattle.std.proofs.lemmas.List.{take_all}
 use Rattle.std.proofs.lemmas.Option.{same_Some}
 use Rattle.lg_rules.specs.declared.addr.Addr.{Addr}
 use Rattle.lg_timing.specs.Meaning.Bounds.{most_seeds}
 use Rattle.lg_timing.specs.Meaning.Config.{are_good_seeds, check_of, defaults, fault_checked, first_broken}
-use Rattle.lg_timing.specs.Meaning.Keys.{is_before_seeds}
+use Rattle.lg_timing.specs.Meaning.Keys.{config_fault_number, is_before_seeds}
 use Rattle.lg_timing.specs.declared.config.Config.{Config}
 use Rattle.lg_timing.specs.declared.config.ConfigFault.{ConfigFault}
+use Rattle.lg_timing.specs.declared.config.ConfigFault.TheVariants.{Seeds}
 use Rattle.lg_timing.specs.declared.config.Seed.{Seed}
 use Rattle.lg_timing.specs.declared.keys.Key.{Key}
 use Rattle.toml.specs.Data.{Members}
@@ -19,7 +20,7 @@ use Rattle.lg_config.specs.declared.fault.FileFault.TheVariants as fault
 use Rattle.lg_config.specs.declared.node.NodeConfig.{NodeConfig}
 use Rattle.lg_config.specs.declared.node_keys.NodeKey.{NodeKey}
 use Rattle.lg_config.specs.declared.node_keys.NodeKey.TheVariants.{PullMs, StallMs}
-use Rattle.lg_config.specs.Meaning.Answer.{and_key_file, and_status, meaning_of, unless_broken, unless_config, unless_node}
+use Rattle.lg_config.specs.Meaning.Answer.{and_key_file, and_late, and_status, is_late, meaning_of, unless_broken, unless_config, unless_late, unless_node}
 use Rattle.lg_config.specs.Meaning.KeyFiles.{key_file_in, with_key_file}
 use Rattle.lg_config.specs.Meaning.Keys.{are_right_keys}
 use Rattle.lg_config.specs.Meaning.NodeKeys.{own_broken}
@@ -86,6 +87,15 @@ many-checked node many = many-seeds node.config node.config.seeds.items many
 checked-kept : (first : NodeConfig) (node : NodeConfig) (r : Result (Unit {0}) ConfigFault) → Some first ≡ Some (with_first_seeds node) → check_of first.config ≡ r → check_of (with_first_seeds node).config ≡ r
 checked-kept first node r same is = ap (λ n. check_of n.config) (sym (same_Some _ _ same)) ∙ is
 
+-- The fault of too many seeds, or one that is looked for before it, counts at once.
+many-early : (r : Result (Unit {0}) ConfigFault) → is_late (fault_of_many r) ≡ false
+many-early (Ok passed) = refl
+many-early (Err broken) = step (nat_lt (config_fault_number broken) 11) refl
+  where
+    step : (early : Bool) → nat_lt (config_fault_number broken) 11 ≡ early → is_late (if early then broken else Seeds) ≡ false
+    step true e = grind (arith, nat_tests, e)
+    step false e = refl
+
 pub judged-many : (m : Members) (first : NodeConfig) (vs : List Value) → Some first ≡ option_map with_first_seeds (settings_of m)
     → items_view vs ≡ seeds_at m → most_seeds < length vs → Err (fault.Config (fault_of_many (check_of first.config))) ≡ unless_node (settings_of m)
 judged-many m first vs found same many = go (settings_of m) refl found
@@ -94,7 +104,9 @@ judged-many m first vs found same many = go (settings_of m) refl found
     go None s e = absurd cc
     go (Some node) s e =
         let past : most_seeds < length node.config.seeds.items = omega (arith, many, settings-counted m node vs same s) in
-        ap (unless_config node) (sym (many-checked node past ∙ ap (λ r. Err (fault_of_many r)) (checked-kept first node _ e refl)))
+        let found = fault_of_many (check_of first.config) in
+        ap (λ late. if late then unless_broken node (own_broken node) else Err (fault.Config found)) (sym (many-early (check_of first.config)))
+        ∙ ap (unless_config node) (sym (many-checked node past ∙ ap (λ r. Err (fault_of_many r)) (checked-kept first node _ e refl)))
 
 -- settings with few seeds are judged as they are checked
 pub judged-few : (m : Members) (first : NodeConfig) (vs : List Value) → Some first ≡ option_map with_first_seeds (settings_of m)
@@ -118,7 +130,11 @@ within-judged node (Some key) is = tt
 
 within-checked : (node : NodeConfig) (checked : Result (Unit {0}) ConfigFault) → IfOk (unless_config node checked) HasWithin
 within-checked node (Ok passed) = within-judged node (own_broken node) refl
-within-checked node (Err broken) = tt
+within-checked node (Err broken) = step (is_late broken)
+  where
+    step : (late : Bool) → IfOk (if late then unless_broken node (own_broken node) else Err (fault.Config broken)) HasWithin
+    step true = within-judged node (own_broken node) refl
+    step false = tt
 
 within-node : (settings : Option NodeConfig) → IfOk (unless_node settings) HasWithin
 within-node None = tt
@@ -147,10 +163,62 @@ within-and_key_file : (m : Members) (r : Result NodeConfig FileFault) → IfOk r
 within-and_key_file m (Err found) within = tt
 within-and_key_file m (Ok node) within = within-key_file node (key_file_in m) within
 
+within-unless_late : (node : NodeConfig) (r : Result (Unit {0}) ConfigFault) → HasWithin node → IfOk (unless_late node r) HasWithin
+within-unless_late node (Ok passed) within = within
+within-unless_late node (Err broken) within = tt
+
+within-and_late : (r : Result NodeConfig FileFault) → IfOk r HasWithin → IfOk (and_late r) HasWithin
+within-and_late (Err found) within = tt
+within-and_late (Ok node) within = within-unless_late node (check_of node.config) within
+
 within-if_right : (m : Members) (right : Bool) (r : Result NodeConfig FileFault) → IfOk r HasWithin → IfOk (if right then r else Err fault.Key) HasWithin
 within-if_right m true r within = within
 within-if_right m false r within = tt
 
 pub within-meaning : (m : Members) → IfOk (meaning_of m) HasWithin
 within-meaning m =
-    within-if_right m (are_right_keys m) _ (within-and_key_file m _ (within-and_status m _ (within-node (settings_of m))))
+    within-if_right m (are_right_keys m) _ (within-and_late _ (within-and_key_file m _ (within-and_status m _ (within-node (settings_of m)))))
+
+-- ---- and the status server of a configuration that is given may listen where it is to
+
+abbrev IsGuarded : NodeConfig → Type 0
+IsGuarded node = may_listen node.status node.status_open ≡ true
+
+guarded-open : (node : NodeConfig) (status : Option Addr) (is_open listens : Bool) → may_listen status is_open ≡ listens
+    → IfOk (if listens then Ok (record node { status = status; status_open = is_open }) else Err fault.StatusNotLoopback) IsGuarded
+guarded-open node status is_open true listens = listens
+guarded-open node status is_open false listens = tt
+
+guarded-status : (node : NodeConfig) (status : Result (Option Addr) FileFault) (is_open : Result Bool FileFault)
+    → IfOk (with_status node status is_open) IsGuarded
+guarded-status node (Err found) is_open = tt
+guarded-status node (Ok status) (Err found) = tt
+guarded-status node (Ok status) (Ok is_open) = guarded-open node status is_open (may_listen status is_open) refl
+
+guarded-and_status : (m : Members) (r : Result NodeConfig FileFault) → IfOk (and_status m r) IsGuarded
+guarded-and_status m (Err found) = tt
+guarded-and_status m (Ok node) = guarded-status node (status_addr_in m) (open_in m)
+
+guarded-key_file : (node : NodeConfig) (path : Result (Option (List ℕ)) FileFault) → IsGuarded node → IfOk (with_key_file node path) IsGuarded
+guarded-key_file node (Err found) guarded = tt
+guarded-key_file node (Ok path) guarded = guarded
+
+guarded-and_key_file : (m : Members) (r : Result NodeConfig FileFault) → IfOk r IsGuarded → IfOk (and_key_file m r) IsGuarded
+guarded-and_key_file m (Err found) guarded = tt
+guarded-and_key_file m (Ok node) guarded = guarded-key_file node (key_file_in m) guarded
+
+guarded-unless_late : (node : NodeConfig) (r : Result (Unit {0}) ConfigFault) → IsGuarded node → IfOk (unless_late node r) IsGuarded
+guarded-unless_late node (Ok passed) guarded = guarded
+guarded-unless_late node (Err broken) guarded = tt
+
+guarded-and_late : (r : Result NodeConfig FileFault) → IfOk r IsGuarded → IfOk (and_late r) IsGuarded
+guarded-and_late (Err found) guarded = tt
+guarded-and_late (Ok node) guarded = guarded-unless_late node (check_of node.config) guarded
+
+guarded-if_right : (right : Bool) (r : Result NodeConfig FileFault) → IfOk r IsGuarded → IfOk (if right then r else Err fault.Key) IsGuarded
+guarded-if_right true r guarded = guarded
+guarded-if_right false r guarded = tt
+
+pub guarded-meaning : (m : Members) → IfOk (meaning_of m) IsGuarded
+guarded-meaning m =
+    guarded-if_right (are_right_keys m) _ (guarded-and_late _ (guarded-and_key_file m _ (guarded-and_status m (unless_node (settings_of m)))))

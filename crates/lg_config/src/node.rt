@@ -5,7 +5,9 @@
 ghost use Rattle.std.specs.Prelude.{◌≡◌, IfOk, None, true};
 ghost use Rattle.toml.specs.View.{table_view};
 ghost use Rattle.lg_timing.specs.Meaning.Config.{IsChecked};
-ghost use Rattle.lg_config.specs.Meaning.Answer.{meaning_of, unless_broken, unless_node, IsAnswer};
+ghost use Rattle.lg_timing.specs.Meaning.Config.{check_of};
+ghost use Rattle.lg_config.specs.Meaning.Answer.{is_late, meaning_of, unless_broken, unless_config, unless_late};
+ghost use Rattle.lg_config.specs.Meaning.Answer.{unless_node, IsAnswer};
 ghost use Rattle.lg_config.specs.Meaning.Settings.{settings_of};
 ghost use Rattle.lg_config.specs.Support.Reading.{fault_of_many};
 
@@ -65,8 +67,43 @@ fn unless_broken(node: NodeConfig, broken: Option<NodeKey>) -> Result<NodeConfig
     }
 }
 
+/// Whether a fault of a member's configuration counts only if nothing else is wrong: if its number is greater than
+/// those of the node's own faults.
+fn is_late(fault: ConfigFault) -> bool
+    ensures { result ≡ is_late fault }
+{
+    fault.number() > FileFault::KeyFile.number()
+}
+
+/// Settings, or the fault that the check of their configuration found, unless that counts later. Or they have the fault
+/// of a number of the node's own.
+fn unless_config(
+    node: NodeConfig,
+    checked: Result<(), ConfigFault>,
+) -> Result<NodeConfig, FileFault>
+    ensures { result ≡ unless_config node checked }
+{
+    match checked {
+        Err(fault) if !is_late(fault) => Err(FileFault::Config(fault)),
+        _ => {
+            let broken = node.own_broken();
+            unless_broken(node, broken)
+        }
+    }
+}
+
+/// Settings, or the fault that the check of their configuration finds if nothing else is wrong.
+fn unless_late(node: NodeConfig) -> Result<NodeConfig, FileFault>
+    ensures { result ≡ unless_late node (check_of node.config) }
+{
+    match node.config.check() {
+        Ok(()) => Ok(node),
+        Err(fault) => Err(FileFault::Config(fault)),
+    }
+}
+
 /// The settings of a table whose keys are right, or their fault. The status server and the path of the key file aren't
-/// read yet.
+/// read yet, and the faults that count last aren't judged.
 fn judged_in(table: &Table) -> Result<NodeConfig, FileFault>
     ensures { result ≡ unless_node (settings_of (table_view table.now)) }
 {
@@ -75,13 +112,7 @@ fn judged_in(table: &Table) -> Result<NodeConfig, FileFault>
     if seeds_at(table).len() > MAX_SEEDS {
         return Err(FileFault::Config(fault_of_many(checked)));
     }
-    match checked {
-        Ok(()) => {
-            let broken = node.own_broken();
-            unless_broken(node, broken)
-        }
-        Err(fault) => Err(FileFault::Config(fault)),
-    }
+    unless_config(node, checked)
 }
 
 /// The configuration that a table means, or its fault.
@@ -93,7 +124,8 @@ fn meaning_in(table: &Table) -> Result<NodeConfig, FileFault>
     }
     let node = judged_in(table)?;
     let node = with_status(table, node)?;
-    with_key_file(table, node)
+    let node = with_key_file(table, node)?;
+    unless_late(node)
 }
 
 impl NodeConfig {
@@ -126,7 +158,8 @@ impl NodeConfig {
     /// [`Config`] and those of [`NodeKey`], by the names of their fields, `status`, `status_open` and `key_file`. The
     /// error is [`ReadFault::File`] with the first of these: [`FileFault::Syntax`], [`FileFault::Key`],
     /// [`FileFault::Value`], [`FileFault::Config`], [`FileFault::Pull`], [`FileFault::Stall`], [`FileFault::Status`],
-    /// [`FileFault::StatusOpen`], [`FileFault::StatusNotLoopback`] and [`FileFault::KeyFile`]. Or it is
+    /// [`FileFault::StatusOpen`], [`FileFault::StatusNotLoopback`] and [`FileFault::KeyFile`]. A
+    /// [`FileFault::Config`] whose number is greater than that of `KeyFile` comes behind all of these. Or the error is
     /// [`ReadFault::NoMemory`], and then nothing is known of the file.
     ///
     /// Memory is allocated for the table that the file spells, and is freed again. For a file of more than

@@ -4,7 +4,7 @@
 //! Tested in: `lg_answers_tests/src/showing.rt`.
 ghost use Rattle.std.specs.Prelude.{◌≡◌, count_by};
 ghost use Rattle.std.specs.List.{list_any};
-ghost use Rattle.lg_counters.specs.Meaning.Tally.{is_of_member, is_ping, is_suspected, is_start, is_direct};
+ghost use Rattle.lg_counters.specs.Meaning.Tally.{is_alive_of, is_ping, is_suspected, is_start, is_direct};
 ghost use Rattle.lg_counters.specs.Meaning.Tally.{tally_of};
 
 use lg_detector::{Outgoing, Reply, Timer, TimerId};
@@ -22,7 +22,8 @@ pub struct Tally {
     pub probe_helped: bool,
     /// How many records became suspect, or got another accuser or incarnation while suspect: at most 12.
     pub suspicions_raised: usize,
-    /// A claim against this member was refuted: its own incarnation rose (SWIM, section 4.2).
+    /// A claim against this member was refuted: it is alive, and its own incarnation rose (SWIM, section 4.2). A member
+    /// that leaves refutes nothing.
     pub refuted: bool,
 }
 
@@ -80,11 +81,18 @@ fn suspects(changed: &[Record]) -> usize
     changed.iter().filter(|member| is_suspected(member)).count()
 }
 
-/// Whether one of these records is that of the member with this name.
-fn has_record(name: &Name, changed: &[Record]) -> bool
-    ensures { result ≡ list_any (is_of_member name.now) changed.now }
+/// Whether a record says that the member with this name is alive.
+fn is_alive_of(name: &Name, member: &Record) -> bool
+    ensures { result ≡ is_alive_of name.now member.now }
 {
-    changed.iter().any(|member| member.name == *name)
+    member.name == *name && matches!(member.status, Status::Alive)
+}
+
+/// Whether one of these records says that the member with this name is alive.
+fn has_alive(name: &Name, changed: &[Record]) -> bool
+    ensures { result ≡ list_any (is_alive_of name.now) changed.now }
+{
+    changed.iter().any(|member| is_alive_of(name, member))
 }
 
 impl Tally {
@@ -98,7 +106,7 @@ impl Tally {
             probe_failed: is_direct(reply.fired),
             probe_helped: pings && reply.fired.is_none(),
             suspicions_raised: suspects(reply.changed.as_slice()),
-            refuted: has_record(name, reply.changed.as_slice()),
+            refuted: has_alive(name, reply.changed.as_slice()),
         }
     }
 }

@@ -8,7 +8,7 @@ use Rattle.lg_timing.specs.declared.config.Config.{Config}
 use Rattle.lg_timing.specs.Meaning.Config.{IsChecked}
 use Rattle.lg_detector.specs.declared.detector.TheConstants.{MAX_EVENTS}
 use Rattle.lg_detector.specs.declared.event.Event.{Event}
-use Rattle.lg_detector.specs.declared.event.Event.TheVariants.{Open, Tick, Heard, Ask, Health, Pull}
+use Rattle.lg_detector.specs.declared.event.Event.TheVariants.{Open, Tick, Heard, Ask, Health, Pull, Leave}
 use Rattle.lg_detector.specs.Meaning.Step.{is_open_event, opens_well, is_accepted, most_events}
 use Rattle.lg_detector.specs.Support.Step.{state_after, accepts_of}
 use Rattle.lg_detector.proofs.Accepting.{accepts-after, events-after}
@@ -35,6 +35,7 @@ opens_by (Heard now source packet) well = absurd cc
 opens_by (Ask now name) well = absurd cc
 opens_by (Health now) well = absurd cc
 opens_by (Pull now peer) well = absurd cc
+opens_by (Leave now words) well = absurd cc
 
 pub accepted_opens : (x : Event) (f : List Event) → is_accepted (x ∷ f) ≡ true → is_open_event x ≡ true
 accepted_opens x f accepted = opens_by x (begun x f accepted).opens

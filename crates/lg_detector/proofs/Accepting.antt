@@ -9,17 +9,17 @@ use Rattle.lg_timing.specs.declared.config.ConfigFault.{ConfigFault}
 use Rattle.lg_timing.specs.Meaning.Config.{check_of, IsChecked}
 use Rattle.lg_timers.specs.declared.timer.Timer.{Timer}
 use Rattle.lg_detector.specs.declared.event.Event.{Event}
-use Rattle.lg_detector.specs.declared.event.Event.TheVariants.{Open, Tick, Heard, Ask, Health, Pull as Pulls}
+use Rattle.lg_detector.specs.declared.event.Event.TheVariants.{Open, Tick, Heard, Ask, Health, Pull as Pulls, Leave}
 use Rattle.lg_detector.specs.Meaning.Log.{Log, Came, event_count}
 use Rattle.lg_detector.specs.Meaning.Timing.{due}
 use Rattle.lg_detector.specs.Meaning.Tick.{expire}
 use Rattle.lg_detector.specs.Meaning.Step.{log_of, is_open_event, opens_well, is_accepted, most_events}
 use Rattle.lg_detector.specs.Support.State.{State}
 use Rattle.lg_detector.specs.Support.Step.{state_after, accepts_of}
-use Rattle.lg_detector.proofs.Leaving.{IsLeft, left-open, left-hear, left-fire}
+use Rattle.lg_detector.proofs.Untouched.{IsUntouched, untouched-open, untouched-hear, untouched-fire}
 
-events_left : IsLeft event_count
-events_left = record {
+events_untouched : IsUntouched event_count
+events_untouched = record {
   said = λ now origin c log. refl;
   sent = λ taken log. refl;
   acked = λ k sender log. refl;
@@ -29,19 +29,20 @@ events_left = record {
 
 events-expire : (o : Option Timer) (words : List ℕ) (log : Log) → event_count (expire o words log) ≡ event_count log
 events-expire None words log = refl
-events-expire (Some timer) words log = left-fire event_count events_left timer words log
+events-expire (Some timer) words log = untouched-fire event_count events_untouched timer words log
 
 one_more : (n m : ℕ) → n ≡ m → n + 1 ≡ suc m
 one_more n m e = omega arith
 
 events-log_of : (past : List Event) → event_count (log_of past) ≡ length past
 events-log_of [] = refl
-events-log_of (Open now opening ∷ past) = left-open event_count events_left now opening (log_of past) ∙ one_more _ _ (events-log_of past)
-events-log_of (Heard now source packet ∷ past) = left-hear event_count events_left now source packet (log_of past) ∙ one_more _ _ (events-log_of past)
+events-log_of (Open now opening ∷ past) = untouched-open event_count events_untouched now opening (log_of past) ∙ one_more _ _ (events-log_of past)
+events-log_of (Heard now source packet ∷ past) = untouched-hear event_count events_untouched now source packet (log_of past) ∙ one_more _ _ (events-log_of past)
 events-log_of (Tick now words ∷ past) = events-expire (due (Came now ∷ log_of past)) words (Came now ∷ log_of past) ∙ one_more _ _ (events-log_of past)
 events-log_of (Ask now name ∷ past) = one_more _ _ (events-log_of past)
 events-log_of (Health now ∷ past) = one_more _ _ (events-log_of past)
 events-log_of (Pulls now peer ∷ past) = one_more _ _ (events-log_of past)
+events-log_of (Leave now words ∷ past) = one_more _ _ (events-log_of past)
 
 pub events-after : (f : List Event) → (state_after f).events ≡ length f
 events-after f = events-log_of (reverse f) ∙ length-reverse f

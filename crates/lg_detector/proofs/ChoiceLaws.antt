@@ -21,7 +21,7 @@ use Rattle.lg_timers.specs.declared.timer.TimerId.{TimerId}
 use Rattle.lg_timers.specs.declared.timer.TimerId.TheVariants.{RoundEnd, Suspicion, Direct, RelayNack, RelayEnd, RoundStart, Gossip}
 use Rattle.lg_timers.specs.Meaning.Timers.{is_due, least_of}
 use Rattle.lg_timers.proofs.Pending.{any-turned}
-use Rattle.lg_probe.specs.Meaning.Order.{current_cycle}
+use Rattle.lg_probe.specs.Meaning.Order.{candidate, current_cycle}
 use Rattle.lg_probe.specs.Meaning.Round.{RoundFact}
 use Rattle.lg_probe.proofs.OrderLaws.{candidate_is}
 use Rattle.lg_membership.specs.declared.origin.Origin.TheVariants.{Group}
@@ -31,21 +31,21 @@ use Rattle.lg_membership.specs.Meaning.Suspicions.{suspicions}
 use Rattle.lg_membership.proofs.Chosen.{found_key}
 use Rattle.lg_membership.proofs.LiveOthers.{among-live}
 use Rattle.lg_detector.specs.declared.event.Event.{Event}
-use Rattle.lg_detector.specs.declared.event.Event.TheVariants.{Open, Tick, Heard, Ask, Health, Pull}
+use Rattle.lg_detector.specs.declared.event.Event.TheVariants.{Open, Tick, Heard, Ask, Health, Pull, Leave}
 use Rattle.lg_detector.specs.declared.reply.Reply.{Reply}
 use Rattle.lg_detector.specs.Meaning.Log.{Log, Came, Fired, moment, group_log}
-use Rattle.lg_detector.specs.Meaning.Probing.{Probe, is_round_start, others, cycle_names, first_word, chosen, number, probe, probe_by, since_start}
+use Rattle.lg_detector.specs.Meaning.Probing.{Probe, is_round_start, has_left, others, cycle_names, cycle_candidates, first_word, chosen, number, probe, probe_by, since_start}
 use Rattle.lg_detector.specs.Meaning.Relaying.{relays, opened_at, relay_has_nacked}
 use Rattle.lg_detector.specs.Meaning.Window.{targets}
-use Rattle.lg_detector.specs.Meaning.Timing.{start_timers, probe_timers, start_by, round_start, end_at, direct_at, nack_timer, relay_timer, suspicion_timer, nack_time, relay_time}
+use Rattle.lg_detector.specs.Meaning.Timing.{interval_later, start_timers, probe_timers, start_by, round_start, end_at, direct_at, nack_timer, relay_timer, suspicion_timer, nack_time, relay_time}
 use Rattle.lg_detector.specs.Meaning.Timing.{gossip_at, gossip_timers, round_timers, nack_timers, relay_timers, suspicion_timers, pending, due}
 use Rattle.lg_detector.specs.Meaning.Apply.{apply_all}
 use Rattle.lg_detector.specs.Meaning.Send.{packets}
 use Rattle.lg_detector.specs.Meaning.Tick.{found, ping_to, messages, claims_said, expire, expire_sends}
 use Rattle.lg_detector.specs.Meaning.Step.{step, log_of, reply, reply_after}
 use Rattle.lg_detector.specs.Meaning.Choice.{first_body, pinged, choice_by, choice_of_reply, targets_after}
-use Rattle.lg_detector.proofs.Leaving.{IsLeft, left-open, left-hear, left-fire}
-use Rattle.lg_detector.proofs.Deadlines.{configuration, configuration_left, configuration-expire, was_opened, opened-first, is_timed}
+use Rattle.lg_detector.proofs.Untouched.{IsUntouched, untouched-open, untouched-hear, untouched-fire}
+use Rattle.lg_detector.proofs.Deadlines.{configuration, configuration_untouched, configuration-expire, was_opened, opened-first, is_timed, timed-leave}
 
 -- WHO IS CHOSEN HAS A RECORD
 -- A name has a record among some, and the record has that name.
@@ -75,10 +75,14 @@ row_in_view (Some opening) own rows m opened has =
     ]
 
 row_of_chosen : (words : List ℕ) (log : Log) (m : List ℕ) → was_opened log ≡ true → chosen words log ≡ Some m → HasRow m (group_view (group_log log))
-row_of_chosen words log m opened is =
-    let g = group_log log in
-    let candidate = candidate_is (others log) (current_cycle (others log) (cycle_names log)) (first_word words) m is in
-    row_in_view (group.config g) (group.own g) (group.table g) m opened (row_in_table g m candidate.named)
+row_of_chosen words log m opened is = step (has_left log) is
+  where
+    step : (left : Bool) → cond left None (candidate (first_word words) (cycle_candidates log)) ≡ Some m → HasRow m (group_view (group_log log))
+    step true none = absurd cc
+    step false one =
+        let g = group_log log in
+        let candidate = candidate_is (others log) (current_cycle (others log) (cycle_names log)) (first_word words) m one in
+        row_in_view (group.config g) (group.own g) (group.table g) m opened (row_in_table g m candidate.named)
 
 -- So the Ping that is sent goes to whom is chosen.
 pinged_is : (o : Option (List ℕ)) (k : ℕ) (rows : List Claim) (log : Log) → ((m : List ℕ) → o ≡ Some m → HasRow m rows) → pinged (first_body (packets (ping_to k rows o) log)) ≡ o
@@ -151,8 +155,8 @@ first_of p q (x ∷ xs) t none first =
 none_due : (log : Log) (timer : Timer) → is_timed log ≡ false → due log ≡ Some timer → moves_round timer ≡ false
 none_due log timer untimed first = first_of moves_round (is_due (moment log)) (pending log) timer (none_pending log untimed) first
 
-timed_left : IsLeft is_timed
-timed_left = record {
+timed_untouched : IsUntouched is_timed
+timed_untouched = record {
   said = λ now origin c log. refl;
   sent = λ taken log. refl;
   acked = λ k sender log. refl;
@@ -172,21 +176,24 @@ untimed-by Gossip words log none = refl
 untimed-expire : (o : Option Timer) (words : List ℕ) (log : Log) → is_timed log ≡ false → due log ≡ o → is_timed (expire o words log) ≡ false
 untimed-expire None words log untimed first = untimed
 untimed-expire (Some timer) words log untimed first =
-    left-fire is_timed timed_left timer words log ∙ untimed-by timer.id words log (none_due log timer untimed first) ∙ untimed
+    untouched-fire is_timed timed_untouched timer words log ∙ untimed-by timer.id words log (none_due log timer untimed first) ∙ untimed
 
 -- What happened before an opening starts no round, and sets no start.
 untimed-before : (past : List Event) → was_opened (log_of past) ≡ false → is_timed (log_of past) ≡ false
 untimed-before [] before = refl
 untimed-before (Open now opening ∷ past) before = absurd (false≢true (sym before ∙ opened-first (Open now opening) (log_of past) refl))
 untimed-before (Heard now source packet ∷ past) before =
-    left-hear is_timed timed_left now source packet (log_of past)
-    ∙ untimed-before past (sym (ap is_some (left-hear configuration configuration_left now source packet (log_of past))) ∙ before)
+    untouched-hear is_timed timed_untouched now source packet (log_of past)
+    ∙ untimed-before past (sym (ap is_some (untouched-hear configuration configuration_untouched now source packet (log_of past))) ∙ before)
 untimed-before (Tick now words ∷ past) before =
     let log = Came now ∷ log_of past in
     untimed-expire (due log) words log (untimed-before past (sym (ap is_some (configuration-expire (due log) words log)) ∙ before)) refl
 untimed-before (Ask now name ∷ past) before = untimed-before past before
 untimed-before (Health now ∷ past) before = untimed-before past before
 untimed-before (Pull now peer ∷ past) before = untimed-before past before
+untimed-before (Leave now words ∷ past) before =
+    let log = Came now ∷ log_of past in
+    timed-leave (interval_later log) (probe log) (round_start log) ∙ untimed-before past before
 
 starts_opened : (past : List Event) (now : ℕ) (timer : Timer) → due (Came now ∷ log_of past) ≡ Some timer → is_of_round timer.id ≡ true → was_opened (log_of past) ≡ true
 starts_opened past now timer first starts = elim (cases_Bool (was_opened (log_of past))) [
@@ -198,8 +205,8 @@ starts_opened past now timer first starts = elim (cases_Bool (was_opened (log_of
 abbrev all_targets : Log → List (List ℕ)
 all_targets log = targets log []
 
-targets_left : IsLeft all_targets
-targets_left = record {
+targets_untouched : IsUntouched all_targets
+targets_untouched = record {
   said = λ now origin c log. refl;
   sent = λ taken log. refl;
   acked = λ k sender log. refl;
@@ -229,18 +236,19 @@ gained-expire : (o : Option Timer) (words : List ℕ) (log : Log) → ((timer : 
     → all_targets (expire o words log) ≡ all_targets log ++ option_to_list (choice_by o (first_body (expire_sends o words log)))
 gained-expire None words log opened = nothing_gained (all_targets log)
 gained-expire (Some timer) words log opened =
-    left-fire all_targets targets_left timer words log
+    untouched-fire all_targets targets_untouched timer words log
     ∙ gained-by timer.id words log (apply_all Group (claims_said timer.id log) (Fired timer words ∷ log)) (opened timer refl)
 
 gained-step : (past : List Event) (e : Event) → all_targets (step e (log_of past)) ≡ all_targets (log_of past) ++ option_to_list (choice_of_reply (reply e (log_of past)))
-gained-step past (Open now opening) = left-open all_targets targets_left now opening (log_of past) ∙ nothing_gained (all_targets (log_of past))
-gained-step past (Heard now source packet) = left-hear all_targets targets_left now source packet (log_of past) ∙ nothing_gained (all_targets (log_of past))
+gained-step past (Open now opening) = untouched-open all_targets targets_untouched now opening (log_of past) ∙ nothing_gained (all_targets (log_of past))
+gained-step past (Heard now source packet) = untouched-hear all_targets targets_untouched now source packet (log_of past) ∙ nothing_gained (all_targets (log_of past))
 gained-step past (Tick now words) =
     let log = Came now ∷ log_of past in
     gained-expire (due log) words log (λ timer first starts. starts_opened past now timer first starts)
 gained-step past (Ask now name) = nothing_gained (all_targets (log_of past))
 gained-step past (Health now) = nothing_gained (all_targets (log_of past))
 gained-step past (Pull now peer) = nothing_gained (all_targets (log_of past))
+gained-step past (Leave now words) = nothing_gained (all_targets (log_of past))
 
 -- The targets of a list with one more event are those of the list, and whom the reply tells.
 pub targets-gained : (f : List Event) (e : Event) → targets_after (f ++ e ∷ []) ≡ targets_after f ++ option_to_list (choice_of_reply (reply_after f e))

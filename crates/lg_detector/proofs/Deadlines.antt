@@ -12,14 +12,14 @@ use Rattle.lg_probe.specs.Meaning.Round.{RoundFact}
 use Rattle.lg_timing.specs.declared.config.Config.{Config}
 use Rattle.lg_membership.specs.Meaning.Log as group
 use Rattle.lg_detector.specs.declared.event.Event.{Event}
-use Rattle.lg_detector.specs.declared.event.Event.TheVariants.{Open, Tick, Heard, Ask, Health, Pull}
+use Rattle.lg_detector.specs.declared.event.Event.TheVariants.{Open, Tick, Heard, Ask, Health, Pull, Leave}
 use Rattle.lg_detector.specs.Meaning.Log.{Log, Came, Fired, AckHeard, NackHeard, Relayed, Ended, OfGroup, group_log}
 use Rattle.lg_detector.specs.Meaning.Probing.{Probe, chosen, number, new_probe, probe, probe_by, since_start}
-use Rattle.lg_detector.specs.Meaning.Timing.{gossip_at, gossip_timers, round_timers, start_timer, end_timer, start_timers, direct_timers, probe_timers, start_unless, start_by, round_start, end_at, direct_at, interval_later}
+use Rattle.lg_detector.specs.Meaning.Timing.{gossip_at, gossip_timers, round_timers, start_timer, end_timer, start_timers, direct_timers, probe_timers, start_unless, start_after_leave, start_by, round_start, end_at, direct_at, interval_later}
 use Rattle.lg_detector.specs.Meaning.Timing.{nack_timers, relay_timers, suspicion_timers, deadline_in, due}
 use Rattle.lg_detector.specs.Meaning.Tick.{expire}
 use Rattle.lg_detector.specs.Meaning.Step.{step, log_of, is_open_event, begins_open, deadline_after}
-use Rattle.lg_detector.proofs.Leaving.{IsLeft, left-open, left-hear, left-fire}
+use Rattle.lg_detector.proofs.Untouched.{IsUntouched, untouched-open, untouched-hear, untouched-fire}
 
 -- Whether the member was opened, and what that is read off.
 abbrev pub configuration : Log → Option Config
@@ -28,8 +28,8 @@ configuration log = group.config (group_log log)
 abbrev pub was_opened : Log → Bool
 was_opened log = is_some (configuration log)
 
-pub configuration_left : IsLeft configuration
-configuration_left = record {
+pub configuration_untouched : IsUntouched configuration
+configuration_untouched = record {
   said = λ now origin c log. refl;
   sent = λ taken log. refl;
   acked = λ k sender log. refl;
@@ -39,24 +39,26 @@ configuration_left = record {
 
 pub configuration-expire : (o : Option Timer) (words : List ℕ) (log : Log) → configuration (expire o words log) ≡ configuration log
 configuration-expire None words log = refl
-configuration-expire (Some timer) words log = left-fire configuration configuration_left timer words log
+configuration-expire (Some timer) words log = untouched-fire configuration configuration_untouched timer words log
 
 -- After an opening it was, and no event changes that.
 pub opened-first : (e : Event) (log : Log) → is_open_event e ≡ true → was_opened (step e log) ≡ true
-opened-first (Open now opening) log opens = ap is_some (left-open configuration configuration_left now opening log)
+opened-first (Open now opening) log opens = ap is_some (untouched-open configuration configuration_untouched now opening log)
 opened-first (Heard now source packet) log opens = absurd cc
 opened-first (Tick now words) log opens = absurd cc
 opened-first (Ask now name) log opens = absurd cc
 opened-first (Health now) log opens = absurd cc
 opened-first (Pull now peer) log opens = absurd cc
+opened-first (Leave now words) log opens = absurd cc
 
 opened-next : (e : Event) (log : Log) → was_opened log ≡ true → was_opened (step e log) ≡ true
 opened-next (Open now opening) log was = opened-first (Open now opening) log refl
-opened-next (Heard now source packet) log was = ap is_some (left-hear configuration configuration_left now source packet log) ∙ was
+opened-next (Heard now source packet) log was = ap is_some (untouched-hear configuration configuration_untouched now source packet log) ∙ was
 opened-next (Tick now words) log was = ap is_some (configuration-expire (due (Came now ∷ log)) words (Came now ∷ log)) ∙ was
 opened-next (Ask now name) log was = was
 opened-next (Health now) log was = was
 opened-next (Pull now peer) log was = was
+opened-next (Leave now words) log was = was
 
 opened-past : (past : List Event) (x : Event) → is_open_event x ≡ true → was_opened (log_of (past ++ x ∷ [])) ≡ true
 opened-past [] x opens = opened-first x [] opens
@@ -79,6 +81,10 @@ timed-by (RelayEnd k) words log timed = timed
 timed-by Gossip words log timed = timed
 timed-by RoundStart words log timed = timed-start (number log) (interval_later log) (chosen words log)
 
+pub timed-leave : (later : ℕ) (p : Option Probe) (start : Option ℕ) → is_some (start_after_leave later p start) ≡ (is_some p || is_some start)
+timed-leave later None start = refl
+timed-leave later (Some p) start = refl
+
 pub timed : (log : Log) → was_opened log ≡ true → is_timed log ≡ true
 timed [] opened = absurd cc
 timed (Came now ∷ log) opened = timed log opened
@@ -90,6 +96,7 @@ timed (Ended ∷ log) opened = timed log opened
 timed (OfGroup (group.Opened opening) ∷ log) opened = refl
 timed (OfGroup (group.Said now origin c) ∷ log) opened = timed log opened
 timed (OfGroup (group.Sent taken) ∷ log) opened = timed log opened
+timed (OfGroup group.Departed ∷ log) opened = timed-leave (interval_later log) (probe log) (round_start log) ∙ timed log opened
 
 -- So there is a least deadline.
 some_least : (end direct : ℕ) (p : Option Probe) (past : List RoundFact) (start : Option ℕ) (rest : List Timer) → (is_some p || is_some start) ≡ true

@@ -10,9 +10,10 @@ pub mod Applying
 pub mod Ticking
 pub mod Sending
 pub mod Telling
+pub mod LeaveTelling
 pub mod StepLaws
 pub mod WindowLaws
-pub mod Leaving
+pub mod Untouched
 pub mod Accepting
 pub mod AcceptedLists
 pub mod Deadlines

@@ -1,5 +1,5 @@
 -- The order of probing: its names are the others that aren't gone, and those chosen in the current cycle.
-use Rattle.std.proofs.Common.{◌≡◌, ℕ, ◌≤◌, Bool, true, false, cond, ◌||◌, List, [], ◌∷◌, ◌++◌, length, Option, Some, None, inl, inr, refl, sym, ◌∙◌, ap, subst, arith}
+use Rattle.std.proofs.Common.{◌≡◌, ℕ, ◌≤◌, Bool, true, false, not, cond, ◌||◌, List, [], ◌∷◌, ◌++◌, length, Option, Some, None, inl, inr, refl, sym, ◌∙◌, ap, subst, arith}
 use Rattle.std.specs.Option.{option_to_list}
 use Rattle.std.proofs.lemmas.Bool.{cases_Bool}
 use Rattle.lg_rules.specs.declared.claim.Claim.{Claim}
@@ -10,7 +10,7 @@ use Rattle.lg_rules.proofs.KeyOrder.{names_order, cases_key, key_is}
 use Rattle.lg_rules.proofs.Rises.{rises-put, rises-in_order, among-put, among-in_order}
 use Rattle.lg_rules.proofs.Roster.{roster-own, length-roster}
 use Rattle.lg_rules.proofs.Tables.{Taken, Unbeaten, Out, heard_cases}
-use Rattle.lg_probe.specs.Meaning.Order.{OrderValue, Chose, choice, current_cycle, known_names, next_cycle, order_with, put_choice}
+use Rattle.lg_probe.specs.Meaning.Order.{OrderValue, choice, current_cycle, known_names, next_cycle, put_choice}
 use Rattle.lg_probe.proofs.NameRows.{names_few, among-append}
 use Rattle.lg_probe.proofs.OrderLaws.{choice-in_order, current-in_order, put_choice-in_order, candidate_is, in_current, InEither, First, Second, in_either}
 use Rattle.lg_membership.specs.declared.applied.Presence.{Presence}
@@ -28,21 +28,33 @@ use Rattle.lg_detector.specs.Meaning.Log.{Log, Came, Fired, AckHeard, NackHeard,
 use Rattle.lg_detector.specs.Meaning.Apply as to_log
 use Rattle.lg_detector.specs.Meaning.Probing as probing
 use Rattle.lg_detector.specs.Meaning.Probing.{others, cycle_names, first_word}
-use Rattle.lg_detector.specs.Support.State.{chosen_state}
+use Rattle.lg_detector.specs.Support.State.{chosen_state, chose_unless}
 use Rattle.lg_detector.specs.Support.State.{State, state_of, order_of, reorder}
 
 pub chosen-is : (words : List ℕ) (log : Log) → chosen_state words (state_of log) ≡ probing.chosen words log
-chosen-is words log = choice-in_order (others log) (cycle_names log) (first_word words)
+chosen-is words log = ap (cond (probing.has_left log) None) (choice-in_order (others log) (cycle_names log) (first_word words))
 
 pub order-chose : (words : List ℕ) (log : Log)
-    → order_with (order_of log) (Chose (first_word words)) ≡ record { names = others log; chosen = in_order name_cmp (next_cycle (others log) (cycle_names log) (first_word words)) }
-order-chose words log =
-    let names = others log in
-    let cycle = cycle_names log in
-    let word = first_word words in
-    let chosen : put_choice (choice names (in_order name_cmp cycle) word) (current_cycle names (in_order name_cmp cycle)) ≡ in_order name_cmp (next_cycle names cycle word) =
-    (λ i. put_choice (choice-in_order names cycle word i) (current-in_order names cycle i)) ∙ put_choice-in_order (choice names cycle word) (current_cycle names cycle) in
-    λ i. record { names = names; chosen = chosen i }
+    → chose_unless (probing.has_left log) (first_word words) (order_of log)
+    ≡ record {
+      names = others log;
+      chosen = in_order name_cmp (cond (not (probing.has_left log)) (next_cycle (others log) (cycle_names log) (first_word words)) (cycle_names log));
+    }
+order-chose words log = step (probing.has_left log)
+  where
+    step : (left : Bool) → chose_unless left (first_word words) (order_of log)
+        ≡ record {
+          names = others log;
+          chosen = in_order name_cmp (cond (not left) (next_cycle (others log) (cycle_names log) (first_word words)) (cycle_names log));
+        }
+    step true = refl
+    step false =
+        let names = others log in
+        let cycle = cycle_names log in
+        let word = first_word words in
+        let chosen : put_choice (choice names (in_order name_cmp cycle) word) (current_cycle names (in_order name_cmp cycle)) ≡ in_order name_cmp (next_cycle names cycle word) =
+        (λ i. put_choice (choice-in_order names cycle word i) (current-in_order names cycle i)) ∙ put_choice-in_order (choice names cycle word) (current_cycle names cycle) in
+        λ i. record { names = names; chosen = chosen i }
 
 -- a claim is said: its member joins, or leaves, or neither
 reorder-is : (m : List ℕ) (p : Presence) (o : OrderValue) → reorder m p o ≡ record { names = live_after p m o.names; chosen = o.chosen }
@@ -91,7 +103,7 @@ chosen_known log w k before (Some n) is a = elim (in_either _ _ a) [
 pub cycle-known : (log : Log) (k : List ℕ) → is_among name_cmp k (cycle_names log) ≡ true → is_among name_cmp k (roster_in log) ≡ true
 cycle-known [] k a = absurd cc
 cycle-known (Came now ∷ log) k a = cycle-known log k a
-cycle-known (Fired timer words ∷ log) k a = elim (cases_Bool (probing.is_round_start timer.id)) [
+cycle-known (Fired timer words ∷ log) k a = elim (cases_Bool (probing.chooses timer.id log)) [
   | inl t ↦ (
       let names = others log in
       let cycle = cycle_names log in
@@ -109,6 +121,7 @@ cycle-known (Ended ∷ log) k a = cycle-known log k a
 cycle-known (OfGroup (group.Opened opening) ∷ log) k a = absurd cc
 cycle-known (OfGroup (group.Said now origin c) ∷ log) k a = roster-grows (group.me (group_log log)) c (group.said (group_log log)) k (cycle-known log k a)
 cycle-known (OfGroup (group.Sent taken) ∷ log) k a = cycle-known log k a
+cycle-known (OfGroup group.Departed ∷ log) k a = cycle-known log k a
 
 -- So there is room for a member that joins.
 joined_live : (before after : Bool) → presence_of before after ≡ Joins → after ≡ true

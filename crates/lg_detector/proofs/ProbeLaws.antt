@@ -11,7 +11,7 @@ use Rattle.lg_timers.specs.declared.timer.TimerId.TheVariants.{RoundEnd, Suspici
 use Rattle.lg_timers.specs.declared.timer.TimerId.TheVariants.{RelayNack, RelayEnd, RoundStart, Gossip}
 use Rattle.lg_probe.specs.declared.relays.Asker.{Asker}
 use Rattle.lg_probe.specs.declared.relays.Relay.{Relay}
-use Rattle.lg_probe.specs.Meaning.Order.{OrderValue, Chose, order_with}
+use Rattle.lg_probe.specs.Meaning.Order.{OrderValue}
 use Rattle.lg_probe.specs.Meaning.Relays.{ended_asker}
 use Rattle.lg_probe.specs.Meaning.Round.{RoundFact, RoundValue, Asked, Acked, Nacked, asked_in, is_acked, ack_counts, round_of, round_with}
 use Rattle.lg_probe.proofs.RoundLaws.{asked_after, nacked_after}
@@ -20,7 +20,9 @@ use Rattle.lg_membership.specs.Meaning.Log as group
 use Rattle.lg_membership.specs.Meaning.Log.{group_view}
 use Rattle.lg_membership.specs.Meaning.Suspicions.{SuspectedValue, suspicions}
 use Rattle.lg_membership.specs.Support.State.{group_state_of}
-use Rattle.lg_detector.specs.Meaning.Log.{Log, Fired, AckHeard, NackHeard, Relayed, Ended, event_count, moment, group_log}
+use Rattle.lg_membership.proofs.FactLaws.{leave-state}
+use Rattle.lg_membership.proofs.SuspicionLaws.{suspicions-left}
+use Rattle.lg_detector.specs.Meaning.Log.{Log, Fired, AckHeard, NackHeard, Relayed, Ended, OfGroup, event_count, moment, group_log}
 use Rattle.lg_detector.specs.Meaning.Probing as probing
 use Rattle.lg_detector.specs.Meaning.Probing.{Probe, number, probe, since_start, round, round_at, new_probe, first_word, target, helpers_of, asked_about}
 use Rattle.lg_detector.specs.Meaning.Relaying.{relays, relay_has_nacked, opened_at}
@@ -107,7 +109,7 @@ start-by log (Some m) order = λ i. record {
 
 start-state : (d : ℕ) (words : List ℕ) (log : Log) → state.start_round words (state_of log) ≡ state_of (Fired (record { deadline = d; id = RoundStart }) words ∷ log)
 start-state d words log =
-    let order = order_with (order_of log) (Chose (first_word words)) in
+    let order = state.chose_unless (probing.has_left log) (first_word words) (order_of log) in
     ap (λ o. start_probe o (record (state_of log) { order = order })) (chosen-is words log)
     ∙ start-by log (probing.chosen words log) order
     ∙ ap (after_start log (probing.chosen words log)) (order-chose words log)
@@ -268,6 +270,38 @@ ended-state log =
       gossip = gossip_at (Ended ∷ log);
       relays = relays log;
       membership = group_state_of (group_log log);
+    }
+
+-- this member leaves: the probe that runs is dropped
+dropped : (nack_at end_at : ℕ → ℕ) (silent relays : List Relay) (rows : List SuspectedValue) (end direct later : ℕ) (p : Option Probe) (past : List RoundFact) (start gossip : Option ℕ)
+    → state.without_probe (is_some (round_at past p)) later
+    (turned ((timing.probe_timers end direct p past ++ timing.start_timers start) ++ gossip_timers gossip) (nacks nack_at silent) (ends end_at relays) (runs rows))
+    ≡ turned (timing.start_timers (timing.start_after_leave later p start) ++ gossip_timers gossip) (nacks nack_at silent) (ends end_at relays) (runs rows)
+dropped nack_at end_at silent relays rows end direct later None past start gossip = refl
+dropped nack_at end_at silent relays rows end direct later (Some p) past start gossip =
+    start-set nack_at end_at silent relays rows later (gossip_timers gossip) ((timing.probe_timers end direct (Some p) past ++ timing.start_timers start) ++ gossip_timers gossip)
+    (are_round end direct (Some p) past start gossip)
+
+pub depart-state : (log : Log) → state.depart (state_of log) ≡ state_of (OfGroup group.Departed ∷ log)
+unfolding state.depart
+depart-state log =
+    let g = group_log log in
+    let silent = filter (is_silent log) (relays log) in
+    let start = timing.start_after_leave (timing.interval_later log) (probe log) (round_start log) in
+    let timers = dropped (nack_at log) (relay_at log) silent (relays log) (rows log) (end_at log) (direct_at log) (timing.interval_later log) (probe log) (since_start log) (round_start log) (gossip_at log)
+    ∙ ap (λ (rs : List SuspectedValue). turned (timing.start_timers start ++ rest log) (nack_timers log) (relay_timers log) (runs rs)) (suspicions-left g) in
+    let member = leave-state g in
+    λ i. record {
+      events = event_count log;
+      moment = moment log;
+      score = score log;
+      timers = timers i;
+      order = order_of log;
+      number = number log;
+      round = None;
+      gossip = gossip_at log;
+      relays = relays log;
+      membership = member i;
     }
 
 fired : (d : ℕ) (id : TimerId) (words : List ℕ) (log : Log) → fire_id id words (state_of log) ≡ state_of (Fired (record { deadline = d; id = id }) words ∷ log)

@@ -28,11 +28,11 @@ use Rattle.lg_detector.specs.Meaning.Timing.{gossip_at, gossip_timers, round_sta
 use Rattle.lg_detector.specs.Meaning.Apply as to_log
 use Rattle.lg_detector.specs.Support.State.{State, come_state, begin, apply_state, apply_all_state, send_taken}
 use Rattle.lg_detector.specs.Support.State.{fire_state, fire_id, start_round, chosen_state, number_after, state_of}
-use Rattle.lg_detector.specs.Support.State.{ask_helpers, end_event, end_round, gossip_fired, nack_relay, close_relay, hear_ack, hear_nack}
+use Rattle.lg_detector.specs.Support.State.{ask_helpers, depart, end_event, end_round, gossip_fired, nack_relay, close_relay, hear_ack, hear_nack}
 use Rattle.lg_detector.specs.Support.State.{open_relay}
 use Rattle.lg_detector.specs.Support.Reached.{IsReached}
 use Rattle.lg_detector.proofs.FactLaws.{come-state, begin-state, apply-state, send-state}
-use Rattle.lg_detector.proofs.ProbeLaws.{fire-state, ack-state, ended-state, nack-heard, relayed-state}
+use Rattle.lg_detector.proofs.ProbeLaws.{depart-state, fire-state, ack-state, ended-state, nack-heard, relayed-state}
 use Rattle.lg_detector.proofs.RelayLaws.{numbered, none_at}
 use Rattle.lg_detector.proofs.TimerLaws.{length-turned, length-round, length-filter}
 
@@ -104,6 +104,11 @@ reached-apply s after origin c e r =
 pub reached-send : (s after : State) (taken : List Claim) → after ≡ send_taken taken s → IsReached s → IsReached after
 reached-send s after taken e r =
     leads (send_taken taken s) after (OfGroup (group.Sent taken) ∷ r.log) e (ap (send_taken taken) r.is ∙ send-state taken r.log) r.good r.few_events r.numbered r.few_relays
+
+pub reached-depart : (s after : State) → after ≡ depart s → IsReached s → IsReached after
+unfolding depart
+reached-depart s after e r =
+    leads (depart s) after (OfGroup group.Departed ∷ r.log) e (ap depart r.is ∙ depart-state r.log) r.good r.few_events r.numbered r.few_relays
 
 -- What a timer that fires leaves: what is known of the group, and how many events came.
 length-fewer : (p : Relay → Bool) (rs : List Relay) (m : ℕ) → length rs ≤ m → length (filter p rs) ≤ m

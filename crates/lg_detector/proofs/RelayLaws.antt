@@ -120,6 +120,7 @@ numbered (Relayed target asker ∷ log) =
 numbered (OfGroup (group.Opened opening) ∷ log) = record { below = tt; apart = tt }
 numbered (OfGroup (group.Said now origin c) ∷ log) = record { below = (numbered log).below; apart = (numbered log).apart }
 numbered (OfGroup (group.Sent taken) ∷ log) = record { below = (numbered log).below; apart = (numbered log).apart }
+numbered (OfGroup group.Departed ∷ log) = record { below = (numbered log).below; apart = (numbered log).apart }
 
 fresh : (n : ℕ) (rs : List Relay) → Below n rs → filter (λ r. not (has_number n r)) rs ≡ rs
 fresh n [] b = refl

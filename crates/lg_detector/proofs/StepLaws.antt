@@ -1,5 +1,7 @@
 -- The states lead on as the events do, and give the replies to them.
 use Rattle.std.proofs.Common.{◌≡◌, ℕ, Bool, true, false, cond, List, [], ◌∷◌, ◌++◌, reverse, Option, Some, None, IsTrue, refl, sym, ◌∙◌, ap}
+use Rattle.std.specs.Prelude.{option_map}
+use Rattle.std.specs.List.{filter_map}
 use Rattle.std.proofs.lemmas.List.{reverse-append}
 use Rattle.lg_rules.specs.declared.addr.Addr.{Addr}
 use Rattle.lg_rules.specs.declared.claim.Claim.{Claim}
@@ -23,10 +25,11 @@ use Rattle.lg_membership.specs.Meaning.Log.{group_view}
 use Rattle.lg_membership.specs.Meaning.Pages.{page_of}
 use Rattle.lg_membership.proofs.FactLaws.{own_name}
 use Rattle.lg_detector.specs.declared.event.Event.{Event}
-use Rattle.lg_detector.specs.declared.event.Event.TheVariants.{Open, Tick, Heard, Ask, Health, Pull as Pulls}
+use Rattle.lg_detector.specs.declared.event.Event.TheVariants.{Open, Tick, Heard, Ask, Health, Pull as Pulls, Leave}
 use Rattle.lg_detector.specs.declared.message.Message.{Message}
+use Rattle.lg_detector.specs.declared.reply.Outgoing.{Outgoing}
 use Rattle.lg_detector.specs.Meaning.Log.{Log, Came, Fired, Relayed, OfGroup, group_log}
-use Rattle.lg_detector.specs.Meaning.Probing.{number, round, told_by}
+use Rattle.lg_detector.specs.Meaning.Probing.{has_left, number, round, told_by}
 use Rattle.lg_detector.specs.Meaning.Relaying.{relays}
 use Rattle.lg_detector.specs.Meaning.Timing.{due, or_zero}
 use Rattle.lg_detector.specs.Meaning.Apply as to_log
@@ -35,13 +38,15 @@ use Rattle.lg_detector.specs.Meaning.Hear as hear_log
 use Rattle.lg_detector.specs.Meaning.Tick as tick_log
 use Rattle.lg_detector.specs.Meaning.Send as send_log
 use Rattle.lg_detector.specs.Meaning.Joining as join_log
+use Rattle.lg_detector.specs.Meaning.Leave as leave_log
 use Rattle.lg_detector.specs.Meaning.Step as step_log
 use Rattle.lg_detector.specs.Support.State.{State, state_of, begin, end_event, apply_all_state, open_relay}
 use Rattle.lg_detector.specs.Support.Send.{claims_of_state, outgoing_state, packets_state, send_all_state, send_state}
 use Rattle.lg_detector.specs.Support.Open.{open_with_state}
 use Rattle.lg_detector.specs.Support.Hear.{answer_state, body_meant_state, hear_claims_state, hear_state, note_state, respond_state}
 use Rattle.lg_detector.specs.Support.Hear.{response_state, sends_of_state, sends_to_state}
-use Rattle.lg_detector.specs.Support.Joining.{next_pull_state, page_behind_state, pull_after_state}
+use Rattle.lg_detector.specs.Support.Joining.{next_pull_state, own_packet_state, page_behind_state, pull_after_state}
+use Rattle.lg_detector.specs.Support.Leave.{leave_state, leave_packets_state, leave_sends_state}
 use Rattle.lg_detector.specs.Support.Tick as tick_state
 use Rattle.lg_detector.specs.Support.Tick.{claims_said_state, due_state, expire_sends_state, expire_state}
 use Rattle.lg_detector.specs.Support.Tick.{messages_state, tick_state, while_news_state}
@@ -49,7 +54,7 @@ use Rattle.lg_detector.specs.Support.Step.{state_after, accepts_of, view_state, 
 use Rattle.lg_detector.specs.Support.Step.{reply_state}
 use Rattle.lg_detector.proofs.FactLaws.{come-state, begin-state, apply-state, send-state}
 use Rattle.lg_detector.proofs.OrderLaws.{chosen-is}
-use Rattle.lg_detector.proofs.ProbeLaws.{fire-state, ack-state, ended-state, nack-heard, relayed-state, helpers-is}
+use Rattle.lg_detector.proofs.ProbeLaws.{depart-state, fire-state, ack-state, ended-state, nack-heard, relayed-state, helpers-is}
 
 pub apply_all-state : (origin : Origin) (cs : List Claim) (log : Log) → apply_all_state origin cs (state_of log) ≡ state_of (to_log.apply_all origin cs log)
 apply_all-state origin [] log = refl
@@ -156,11 +161,14 @@ response_sent-log source sender body log =
     ∙ packets-log (hear_log.response source sender body log) (hear_log.note source sender body log)
 
 -- Pulls and Pages
-pull_after-log : (to : Addr) (after : Option (List ℕ)) (log : Log) → pull_after_state to after (state_of log) ≡ join_log.pull_after to after log
-pull_after-log to after log =
+own_packet-log : (to : Addr) (body : Body) (log : Log) → own_packet_state to body (state_of log) ≡ join_log.own_packet to body log
+own_packet-log to body log =
     let version = version_sent (group.config (group_log log)) in
     let own = join_log.own_told version (own_record (group.own (group_log log))) in
-    ap (λ me. join_log.with_claims to version me (Pull after) own) (own_name (group_log log))
+    ap (λ me. join_log.with_claims to version me body own) (own_name (group_log log))
+
+pull_after-log : (to : Addr) (after : Option (List ℕ)) (log : Log) → pull_after_state to after (state_of log) ≡ join_log.pull_after to after log
+pull_after-log to after log = own_packet-log to (Pull after) log
 
 page_behind-log : (to : Addr) (after : Option (List ℕ)) (log : Log) → page_behind_state to after (state_of log) ≡ join_log.page_behind to after log
 page_behind-log to after log =
@@ -224,6 +232,21 @@ expire_sends-log (Some timer) words log =
 tick-state : (now : ℕ) (words : List ℕ) (log : Log) → tick_state now words (state_of log) ≡ state_of (tick_log.tick now words log)
 tick-state now words log = expire-state (due (Came now ∷ log)) words (Came now ∷ log)
 
+-- this member leaves
+leave-state : (now : ℕ) (log : Log) → leave_state now (state_of log) ≡ state_of (leave_log.leave now log)
+leave-state now log = depart-state (Came now ∷ log)
+
+leave_packets-log : (words : List ℕ) (log : Log) → leave_packets_state words (state_of log) ≡ leave_log.leave_packets words log
+leave_packets-log words log =
+    let body = leave_log.leave_body (version_sent (group.config (group_log log))) in
+    let rows = group_view (group_log log) in
+    ap (λ (packet : Claim → Outgoing). filter_map (λ m. option_map packet (tick_log.found m rows)) (leave_log.told_of_leave words log))
+    (λ i r. own_packet-log r.addr body log i)
+
+leave_sends-log : (now : ℕ) (words : List ℕ) (log : Log) → leave_sends_state now words (state_of log) ≡ leave_log.leave_sends now words log
+leave_sends-log now words log =
+    ap (cond (has_left log) []) (ap (leave_packets_state words) (leave-state now log) ∙ leave_packets-log words (leave_log.leave now log))
+
 happen-state : (log : Log) (e : Event) → happen_state (state_of log) e ≡ state_of (step_log.happen e log)
 unfolding happen_state
 happen-state log (Open now opening) = open-state now opening log
@@ -232,6 +255,7 @@ happen-state log (Tick now words) = tick-state now words log
 happen-state log (Ask now name) = come-state now log
 happen-state log (Health now) = come-state now log
 happen-state log (Pulls now peer) = come-state now log
+happen-state log (Leave now words) = leave-state now log
 
 pub advance-state : (log : Log) (e : Event) → advance (state_of log) e ≡ state_of (step_log.step e log)
 advance-state log e = ap end_event (happen-state log e) ∙ ended-state (step_log.happen e log)
@@ -281,6 +305,14 @@ reply-state log (Pulls now peer) = λ i. record {
   answer = None;
   ousted = (advance-state log (Pulls now peer) i).membership.own.ousted;
   next = or_zero (deadline_state (advance-state log (Pulls now peer) i));
+}
+reply-state log (Leave now words) = λ i. record {
+  fired = None;
+  sends = record { items = leave_sends-log now words log i };
+  changed = record { items = changed (step_log.view log) (view_state (leave-state now log i)) };
+  answer = None;
+  ousted = (advance-state log (Leave now words) i).membership.own.ousted;
+  next = or_zero (deadline_state (advance-state log (Leave now words) i));
 }
 reply-state log (Tick now words) = λ i. record {
   fired = due_state (come-state now log i);

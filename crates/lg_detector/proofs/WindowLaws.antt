@@ -10,7 +10,7 @@ use Rattle.lg_probe.proofs.WindowLaws.{choices, in_window}
 use Rattle.lg_membership.specs.Meaning.Log as group
 use Rattle.lg_membership.proofs.LiveOthers.{live-opened}
 use Rattle.lg_detector.specs.Meaning.Log.{Log, Came, Fired, AckHeard, NackHeard, Relayed, Ended, OfGroup, group_log}
-use Rattle.lg_detector.specs.Meaning.Probing.{is_round_start, others, cycle_names, first_word, chosen}
+use Rattle.lg_detector.specs.Meaning.Probing.{is_round_start, has_left, others, cycle_names, first_word, chosen}
 use Rattle.lg_detector.specs.Meaning.Window.{targets, AreOthers}
 
 -- the names chosen in the cycle, after choices by words
@@ -58,22 +58,27 @@ others_then names (fact ∷ stretch) log same = same.0
 
 after_choice : (names : List (List ℕ)) (timer : Timer) (words : List ℕ) (stretch log : Log) → others (stretch ++ log) ≡ names → Chosen names stretch log → Chosen names (Fired timer words ∷ stretch) log
 unfolding cycles
-after_choice names timer words stretch log same before = step (is_round_start timer.id) refl
+after_choice names timer words stretch log same before = step (is_round_start timer.id) refl (has_left (stretch ++ log)) refl
   where
-    step : (b : Bool) → is_round_start timer.id ≡ b → Chosen names (Fired timer words ∷ stretch) log
-    step true starts =
+    step : (b : Bool) → is_round_start timer.id ≡ b → (left : Bool) → has_left (stretch ++ log) ≡ left → Chosen names (Fired timer words ∷ stretch) log
+    step true starts true left = record {
+      words = before.words;
+      are = rw (starts, left) (append-nil (targets stretch log) ∙ before.are);
+      cycle = rw (starts, left) before.cycle;
+    }
+    step true starts false stays =
         let word = first_word words in
         let cycle = cycle_names log in
-        let choice_is : chosen words (stretch ++ log) ≡ choice names (cycles names cycle before.words) word =
+        let choice_is : choice (others (stretch ++ log)) (cycle_names (stretch ++ log)) word ≡ choice names (cycles names cycle before.words) word =
         λ i. choice (same i) (before.cycle i) word in
         let next_is : next_cycle (others (stretch ++ log)) (cycle_names (stretch ++ log)) word ≡ next_cycle names (cycles names cycle before.words) word =
         λ i. next_cycle (same i) (before.cycle i) word in
         record {
           words = before.words ++ word ∷ [];
-          are = rw starts ((λ i. before.are i ++ option_to_list (choice_is i)) ∙ sym (choices-push names cycle before.words word));
-          cycle = rw starts (next_is ∙ sym (cycles-push names cycle before.words word));
+          are = rw (starts, stays) ((λ i. before.are i ++ option_to_list (choice_is i)) ∙ sym (choices-push names cycle before.words word));
+          cycle = rw (starts, stays) (next_is ∙ sym (cycles-push names cycle before.words word));
         }
-    step false not_started =
+    step false not_started left is =
         record { words = before.words; are = rw not_started before.are; cycle = rw not_started before.cycle }
 
 chosen_in : (names : List (List ℕ)) (stretch log : Log) (name : List ℕ) → is_among name_cmp name names ≡ true → AreOthers names stretch log → Chosen names stretch log
@@ -91,6 +96,7 @@ chosen_in names (OfGroup (group.Opened opening) ∷ stretch) log name named same
     absurd (false≢true (sym (ap (is_among name_cmp name) none) ∙ named))
 chosen_in names (OfGroup (group.Said now origin claim) ∷ stretch) log name named same = let c = chosen_in names stretch log name named same.1 in record { words = c.words; are = c.are; cycle = c.cycle }
 chosen_in names (OfGroup (group.Sent claims) ∷ stretch) log name named same = let c = chosen_in names stretch log name named same.1 in record { words = c.words; are = c.are; cycle = c.cycle }
+chosen_in names (OfGroup group.Departed ∷ stretch) log name named same = let c = chosen_in names stretch log name named same.1 in record { words = c.words; are = c.are; cycle = c.cycle }
 
 pub each_target : (log stretch : Log) (name : List ℕ) → AreOthers (others log) stretch log → is_among name_cmp name (others log) ≡ true → window (others log) ≤ length (targets stretch log)
     → is_among name_cmp name (targets stretch log) ≡ true
@@ -104,7 +110,11 @@ nobody_then : (log : Log) (timer : Timer) (words : List ℕ) (stretch : Log) →
 nobody_then log timer words stretch none before = step (is_round_start timer.id)
   where
     nobody : chosen words (stretch ++ log) ≡ None
-    nobody = ap (λ ns. choice ns (cycle_names (stretch ++ log)) (first_word words)) none
+    nobody = none_at (has_left (stretch ++ log))
+      where
+        none_at : (left : Bool) → cond left None (choice (others (stretch ++ log)) (cycle_names (stretch ++ log)) (first_word words)) ≡ None
+        none_at true = refl
+        none_at false = ap (λ ns. choice ns (cycle_names (stretch ++ log)) (first_word words)) none
 
     step : (b : Bool) → cond b (targets stretch log ++ option_to_list (chosen words (stretch ++ log))) (targets stretch log) ≡ []
     step true = λ i. before i ++ option_to_list (nobody i)

@@ -12,12 +12,13 @@ pub mod Timing
 -- what is added to a log, and what is sent
 pub mod Apply
 pub mod Send
--- the kinds of event: Hear has Heard, Ask has Ask and Health, and Joining has Pull
+-- the kinds of event: Hear has Heard, Ask has Ask and Health, Joining has Pull, and Leave has Leave
 pub mod Open
 pub mod Hear
 pub mod Tick
 pub mod Ask
 pub mod Joining
+pub mod Leave
 -- all of them
 pub mod Step
 -- whom rounds chose, by the replies and by the list of events
@@ -29,4 +30,5 @@ pub mod RelayingExamples
 pub mod JoiningExamples
 pub mod VersionExamples
 pub mod VersionThreeExamples
+pub mod LeaveExamples
 pub mod ChoiceExamples

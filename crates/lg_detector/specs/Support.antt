@@ -7,6 +7,7 @@ pub mod Hear
 pub mod Tick
 pub mod Ask
 pub mod Joining
+pub mod Leave
 pub mod Step
 pub mod Reached
 pub mod Kept

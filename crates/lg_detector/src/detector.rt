@@ -41,6 +41,7 @@ mod facts;
 mod gossip;
 mod hear;
 mod joining;
+mod leave;
 mod open;
 mod readers;
 mod relay;
@@ -228,6 +229,7 @@ impl Detector {
             Event::Ask { now, name } => self.ask(*now, name, reply),
             Event::Health { now } => self.ask_health(*now, reply),
             Event::Pull { now, peer } => self.pull(*now, *peer, reply),
+            Event::Leave { now, words } => self.leave(*now, words, reply),
         }
     }
 }

@@ -54,6 +54,14 @@ pub enum Event {
         /// The address of the member that is asked.
         peer: Addr,
     },
+    /// This member leaves its group, for good (this project's choice). Its own record becomes Left, it probes nobody
+    /// any more, and some members are told at once. A further leave does nothing but move the moment.
+    Leave {
+        /// When.
+        now: Moment,
+        /// Random words. Each in turn picks a member that is told at once.
+        words: [u32; 8],
+    },
 }
 
 impl Event {
@@ -87,6 +95,10 @@ impl Event {
             Event::Pull { now, peer } => Event::Pull {
                 now: *now,
                 peer: *peer,
+            },
+            Event::Leave { now, words } => Event::Leave {
+                now: *now,
+                words: *words,
             },
         }
     }

@@ -2,7 +2,7 @@
 //! over it: what an event costs doesn't grow with the slots that it doesn't use.
 //!
 //! Tested in: `lg_detector_tests/src/detector/probing.rt`.
-ghost use Rattle.std.specs.Prelude.{◌≡◌, ◌<◌, ◌≤◌, ◌+◌, ◌++◌, ◌∷◌, ◌==◌, [], length, take};
+ghost use Rattle.std.specs.Prelude.{◌≡◌, ◌<◌, ◌≤◌, ◌+◌, ◌++◌, ◌∷◌, ◌==◌, [], length, take, false};
 ghost use Rattle.arrayvec.specs.ArrayVec.{array_vec_len};
 
 use crate::reply::{MAX_SENDS, Outgoing};
@@ -59,9 +59,10 @@ impl Sends {
 
     /// Whether there are as many packets as there can be: [`MAX_SENDS`].
     pub fn is_full(&self) -> bool
-        ensures { result ≡ (length self.now.items == MAX_SENDS) }
+        ensures full { result ≡ (length self.now.items == MAX_SENDS) }
+        ensures room { result ≡ false → length self.now.items < MAX_SENDS }
     {
-        self.count == MAX_SENDS
+        self.as_slice().len() == MAX_SENDS
     }
 
     /// The packets.

@@ -14,6 +14,7 @@ mod groups;
 mod happening;
 mod hear;
 mod joining;
+mod leaving;
 mod many;
 mod mixing;
 mod open;

@@ -8,11 +8,11 @@ use Rattle.std.proofs.lemmas.List.{reverse-append}
 use Rattle.std.proofs.lemmas.List.Elements.{filter-append}
 use Rattle.lg_rules.specs.declared.addr.Addr.{Addr}
 use Rattle.lg_rules.specs.declared.claim.Claim.{Claim}
-use Rattle.lg_rules.specs.Meaning.Own.{own_of}
+use Rattle.lg_rules.specs.Meaning.Own.{OwnFact, Told, TakesLeave, own_of, claims_told}
 use Rattle.lg_rules.specs.Meaning.Table.{table_of}
 use Rattle.lg_rules.proofs.KeyOrder.{names_order, cases_key}
 use Rattle.lg_rules.proofs.Tests.{both}
-use Rattle.lg_rules.proofs.Views.{rises-view, Changes, Leaves, view_hearing}
+use Rattle.lg_rules.proofs.Views.{row_at-own, row_at-others, rises-view, Changes, Leaves, view_hearing}
 use Rattle.lg_timing.specs.declared.config.Config.{Config}
 use Rattle.lg_timers.specs.declared.timer.Timer.{Timer}
 use Rattle.lg_packet.specs.declared.packet.Body.{Body}
@@ -20,15 +20,16 @@ use Rattle.lg_packet.specs.declared.packet.Body.TheVariants.{Ping, PingReq, Ack,
 use Rattle.lg_membership.specs.declared.origin.Origin.{Origin}
 use Rattle.lg_membership.specs.declared.origin.Origin.TheVariants.{Group}
 use Rattle.lg_membership.specs.Meaning.Log as group
-use Rattle.lg_membership.specs.Meaning.Log.{config, said, opening_name, opening_addr, view_in}
+use Rattle.lg_membership.specs.Meaning.Log.{config, own_facts, opening_name, opening_addr, view_in}
 use Rattle.lg_changes.specs.declared.change.Change.{Change}
 use Rattle.lg_changes.specs.Meaning.Changes.{change_at, is_after}
 use Rattle.lg_detector.specs.declared.event.Event.{Event}
-use Rattle.lg_detector.specs.declared.event.Event.TheVariants.{Open, Tick, Heard, Ask, Health, Pull as Pulls}
+use Rattle.lg_detector.specs.declared.event.Event.TheVariants.{Open, Tick, Heard, Ask, Health, Pull as Pulls, Leave}
 use Rattle.lg_detector.specs.Meaning.Log.{Log, Relayed, group_log}
 use Rattle.lg_detector.specs.Meaning.Timing.{due}
 use Rattle.lg_detector.specs.Meaning.Apply.{come, apply, apply_all, fire}
 use Rattle.lg_detector.specs.Meaning.Hear.{asker_from, body_meant, claims_heard, is_relayed, hear_claims, note, response, respond}
+use Rattle.lg_detector.specs.Meaning.Leave.{leave}
 use Rattle.lg_detector.specs.Meaning.Relaying.{relays}
 use Rattle.lg_detector.specs.Meaning.Send.{send, send_all}
 use Rattle.lg_detector.specs.Meaning.Tick.{claims_said, messages, expire, tick}
@@ -38,24 +39,24 @@ use Rattle.lg_view.proofs.ChangeLaws.{changes_split, behind_earlier, behind_late
 use Rattle.lg_follow.specs.Meaning.Sights.{puts, members_of, changes_between, SightsGrow, LeadOn, EachLeads}
 use Rattle.lg_follow.proofs.TableLaws.{found, InOrder, Keeps, changed_leads, puts_whole, puts_append}
 
--- the view by the configuration of the opening and the claims said since
-abbrev view_by : Option Config → List Claim → List Claim
-view_by o past = view_in o (own_of (opening_name o) (opening_addr o) past) (table_of (opening_name o) past)
+-- the view by the configuration of the opening and what happened to this member since
+abbrev view_by : Option Config → List OwnFact → List Claim
+view_by o past = view_in o (own_of (opening_name o) (opening_addr o) past) (table_of (opening_name o) (claims_told past))
 
-rises_by : (o : Option Config) (past : List Claim) → InOrder (view_by o past)
+rises_by : (o : Option Config) (past : List OwnFact) → InOrder (view_by o past)
 rises_by None past = tt
 rises_by (Some opening) past = rises-view opening.name opening.addr past
 
 rises_log : (log : Log) → InOrder (view log)
-rises_log log = rises_by (config (group_log log)) (said (group_log log))
+rises_log log = rises_by (config (group_log log)) (own_facts (group_log log))
 
 -- one more claim takes no name away,
-keeps_by : (o : Option Config) (c : Claim) (past : List Claim) → Keeps (view_by o past) (view_by o (c ∷ past))
+keeps_by : (o : Option Config) (c : Claim) (past : List OwnFact) → Keeps (view_by o past) (view_by o (Told c ∷ past))
 keeps_by None c past m e = refl
 keeps_by (Some opening) c past m e = elim (view_hearing opening.name opening.addr c past) [
   | Leaves f same ↦ ap (found m) (sym same) ∙ e
   | Changes n ↦ elim (cases_key names_order c.name m) [
-    | inl is ↦ (let bad : None ≡ Some n.r = sym e ∙ ap (λ (k : List ℕ). found k (view_by (Some opening) (c ∷ past))) (sym is) ∙ n.row in absurd cc)
+    | inl is ↦ (let bad : None ≡ Some n.r = sym e ∙ ap (λ (k : List ℕ). found k (view_by (Some opening) (Told c ∷ past))) (sym is) ∙ n.row in absurd cc)
     | inr d ↦ sym (n.others m d) ∙ e
   ]
 ]
@@ -63,7 +64,15 @@ keeps_by (Some opening) c past m e = elim (view_hearing opening.name opening.add
 -- nor do more claims,
 keeps_all : (origin : Origin) (cs : List Claim) (log : Log) → Keeps (view log) (view (apply_all origin cs log))
 keeps_all origin [] log m e = e
-keeps_all origin (c ∷ cs) log m e = keeps_by (config (group_log log)) c (said (group_log log)) m (keeps_all origin cs (apply origin c log) m e)
+keeps_all origin (c ∷ cs) log m e = keeps_by (config (group_log log)) c (own_facts (group_log log)) m (keeps_all origin cs (apply origin c log) m e)
+
+-- nor does a leave,
+keeps_leave : (o : Option Config) (past : List OwnFact) → Keeps (view_by o past) (view_by o (TakesLeave ∷ past))
+keeps_leave None past m e = refl
+keeps_leave (Some opening) past m e = elim (cases_key names_order opening.name m) [
+  | inl is ↦ (let bad = sym e ∙ row_at-own opening.name opening.addr (TakesLeave ∷ past) m is in absurd cc)
+  | inr d ↦ row_at-others opening.name opening.addr past m d ∙ sym (row_at-others opening.name opening.addr (TakesLeave ∷ past) m d) ∙ e
+]
 
 -- and packets that are sent change no record.
 view_send : (body : Body) (log : Log) → view (send body log) ≡ view log
@@ -115,6 +124,8 @@ step_leads (Tick now words) log shut =
 step_leads (Ask now name) log shut = refl
 step_leads (Health now) log shut = refl
 step_leads (Pulls now peer) log shut = refl
+step_leads (Leave now words) log shut =
+    changed_leads (view log) (view (leave now log)) (rises_log log) (rises_log (leave now log)) (keeps_leave (config (group_log log)) (own_facts (group_log log)))
 
 members_at : (version moment : ℕ) (rows : List Claim) → members_of (map (change_at version moment) rows) ≡ rows
 members_at version moment [] = refl

@@ -66,6 +66,9 @@ impl Group {
                 let peer = local(port);
                 self.happen_at(&name, &Event::Pull { now, peer }, output)
             }
+            Command::Leave { name, now, words } => {
+                self.happen_at(&name, &Event::Leave { now, words }, output)
+            }
             Command::Table { name } => self.put_table(alloc, &name, output),
         }
     }
@@ -149,11 +152,7 @@ impl Group {
             return Err(Stop::Faulty(ScriptFault::Packet));
         };
         let to = self.place_at(&sent.outgoing.to);
-        let event = Event::Heard {
-            now,
-            source: sent.from,
-            packet: sent.outgoing.packet.copy(),
-        };
+        let event = sent.arrival(now, &mut output.row);
         if to.is_some() {
             return self.happen(to, &event, output);
         }

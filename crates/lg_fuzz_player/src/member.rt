@@ -4,6 +4,7 @@ use lg_detector::{Detector, Event, NoMemory, Outgoing, Reply};
 use lg_lines::{PacketRow, put_reply};
 use lg_rules::{Addr, Name};
 use lg_script::ScriptFault;
+use lg_timing::Moment;
 use std::alloc::{AllocError, Global};
 
 /// A number that no packet has, since no script is long enough. The check sees by it that numbers don't overflow.
@@ -31,6 +32,19 @@ pub struct SentPacket {
     pub from: Addr,
     /// The packet, and where it goes.
     pub outgoing: Outgoing,
+}
+
+impl SentPacket {
+    /// The event that the packet is heard: as its bytes tell it, and from the address of its sender.
+    pub fn arrival(&self, now: Moment, row: &mut PacketRow) -> Event {
+        lg_packet::encode(&self.outgoing.packet, row);
+        let packet = lg_packet::decode(row.as_slice()).unwrap();
+        Event::Heard {
+            now,
+            source: self.from,
+            packet,
+        }
+    }
 }
 
 /// What is written while a script is played, and the scratch buffers for it.

@@ -27,6 +27,7 @@ enum Content {
     Asks(Box<Name>),
     AsksHealth,
     Pulls(Addr),
+    Leaves(Box<[u32; 8]>),
 }
 
 /// An event in at most one box, besides the list of a packet's claims. A contract sees it as the event.
@@ -70,6 +71,7 @@ impl StoredEvent {
             Event::Ask { now, name } => (*now, Content::Asks(Box::new(alloc, *name)?)),
             Event::Health { now } => (*now, Content::AsksHealth),
             Event::Pull { now, peer } => (*now, Content::Pulls(*peer)),
+            Event::Leave { now, words } => (*now, Content::Leaves(Box::new(alloc, *words)?)),
         };
         Ok(StoredEvent { moment, content })
     }
@@ -96,6 +98,10 @@ impl StoredEvent {
             Content::Asks(name) => Event::Ask { now, name: **name },
             Content::AsksHealth => Event::Health { now },
             Content::Pulls(peer) => Event::Pull { now, peer: *peer },
+            Content::Leaves(words) => Event::Leave {
+                now,
+                words: **words,
+            },
         }
     }
 }

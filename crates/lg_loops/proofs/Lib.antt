@@ -1,6 +1,7 @@
 pub mod AskingLaws
 pub mod KeyedLaws
 pub mod LastingLaws
+pub mod LeavingLaws
 pub mod PullingLaws
 pub mod SeenLaws
 pub mod SendingLaws

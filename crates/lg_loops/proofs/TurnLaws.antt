@@ -1,7 +1,6 @@
 -- One more turn of a loop.
 use Rattle.std.proofs.Common.{◌≡◌, ℕ, ◌+◌, Bool, true, false, List, [], ◌∷◌, ◌++◌, All, refl, ap, sym, ◌∙◌, subst, arith, append_assoc, append-nil, length-append}
-use Rattle.std.specs.Prelude.{◌<◌, nat_lt, Option, Some, None, if◌then◌else◌}
-use Rattle.std.proofs.lemmas.Bool.Decides.{nat_tests}
+use Rattle.std.specs.Prelude.{Option, Some, None, if◌then◌else◌}
 use Rattle.std.specs.List.{flat_map}
 use Rattle.std.proofs.lemmas.List.Elements.{All-nil, All-cons, All-append}
 use Rattle.std.proofs.lemmas.List.Sums.{sum_by-append}
@@ -12,7 +11,7 @@ use Rattle.lg_loops.specs.declared.ending.Why.{Why}
 use Rattle.lg_loops.specs.declared.ending.Why.TheVariants.{Stopped, Ousted, LinkFailed, Refused, ReadBound}
 use Rattle.lg_loops.specs.declared.turned.Turned.{Turned}
 use Rattle.lg_loops.specs.Meaning.Turns.{Turn, deeds, drops, losses, breaks, stops, goes_on, IsTurn, Follows, LinkValue, Made, Counts, Ends, Ran, Threw, words_in}
-use Rattle.lg_loops.specs.Meaning.Turns.Turn.{Quiet, Broken, Dropped, Heard, Unheard, Paused, Ticked, Unticked, Unseen, AskedSeed, UnaskedSeed, Looked, Unlooked, AskedMember, UnaskedMember, FoundNobody, Unfound, Pulled}
+use Rattle.lg_loops.specs.Meaning.Turns.Turn.{Quiet, Broken, Dropped, Heard, Unheard, Paused, Ticked, Unticked, Unseen, AskedSeed, UnaskedSeed, AskedInTurn, UnaskedInTurn, Looked, Unlooked, AskedMember, UnaskedMember, FoundNobody, Unfound, Departed, Undeparted, Pulled}
 use Rattle.lg_loops.specs.Support.Took.{Took}
 
 pub follows-append : (p m q : PassValue) (turns : List Turn) (t : Turn) → Follows p turns m → IsTurn m t q → Follows p (turns ++ t ∷ []) q
@@ -39,7 +38,7 @@ counts_more turns t dropped unsent n was = record {
 }
 
 -- a turn ends no loop as stopped, nor by the bound
-abbrev is_of_turn : Why → Bool
+abbrev pub is_of_turn : Why → Bool
 is_of_turn Stopped = false
 is_of_turn ReadBound = false
 is_of_turn why = true
@@ -64,15 +63,19 @@ stops_of_turn (Unticked now words e) = refl
 stops_of_turn (Unseen e) = refl
 stops_of_turn (AskedSeed now peer r sent) = ousted_of_turn r.reply.ousted
 stops_of_turn (UnaskedSeed now peer e) = refl
+stops_of_turn (AskedInTurn now peer r sent) = ousted_of_turn r.reply.ousted
+stops_of_turn (UnaskedInTurn now peer e) = refl
 stops_of_turn (Looked now seen asks) = refl
 stops_of_turn (Unlooked now) = refl
 stops_of_turn (AskedMember now words seen peer r sent) = ousted_of_turn r.reply.ousted
 stops_of_turn (UnaskedMember now words seen peer e) = refl
 stops_of_turn (FoundNobody now seen) = refl
 stops_of_turn (Unfound now) = refl
+stops_of_turn (Departed now words r sent) = refl
+stops_of_turn (Undeparted now words e) = refl
 stops_of_turn (Pulled now peer r sent) = refl
 
-of_turn : (t : Turn) (why : Why) → stops t ≡ Some why → is_of_turn why ≡ true
+pub of_turn : (t : Turn) (why : Why) → stops t ≡ Some why → is_of_turn why ≡ true
 of_turn t why is = sym (ap are_of_turn is) ∙ stops_of_turn t
 
 pub not_bound : (t : Turn) (why : Why) → stops t ≡ Some why → why ≡ ReadBound → ⊥
@@ -130,9 +133,6 @@ stopped kind tells bound a b p q dropped unsent n going = record { turns = going
 unfoldable pub bounded : (kind : Turn → Bool) (tells : Bool) (bound : ℕ) (a b : LinkValue) (p q : PassValue) (dropped unsent n : ℕ) → n ≡ bound → Going kind tells a b p q dropped unsent n
     → Ran kind tells bound a b p q (record { why = ReadBound; dropped = dropped; unsent = unsent; turns = n })
 bounded kind tells bound a b p q dropped unsent n is going = record { turns = going.turns; made = going.made; counts = going.counts; why = (going.went_on, sym going.counts.turns_is ∙ is) }
-
-pub before_until : (now until : ℕ) → now < until → nat_lt now until ≡ true
-before_until now until low = grind (arith, nat_tests)
 
 -- more words
 pub threw-append : {D : Type 0} (throws : D → List ℕ → D → Type 0) (d m e : D) (ws vs : List (List ℕ)) → Threw throws d ws m → Threw throws m vs e → Threw throws d (ws ++ vs) e

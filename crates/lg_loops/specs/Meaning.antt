@@ -4,7 +4,10 @@ pub mod Keyed
 pub mod NodeLinks
 pub mod Words
 pub mod Turns
+pub mod Leaving
 pub mod Pulling
+pub mod BothLoops
 pub mod Asking
 pub mod Examples
 pub mod PullingExamples
+pub mod LeavingExamples

@@ -2,9 +2,9 @@
 //!
 //! Defined in: `specs/Meaning/Pulling.antt`, `specs/Support/Acted.antt`.
 //! Tested in: `lg_node_tests/src/node/finding.rt`, `cases/groups`.
-ghost use Rattle.std.specs.Prelude.{◌≡◌, ◌≤◌, ◌<◌, ◌+◌, ◌⊎◌, ℕ, [], length, if◌then◌else◌};
-ghost use Rattle.lg_loops.specs.Meaning.Turns.{Turn};
-ghost use Rattle.lg_loops.specs.Support.Acted.{IsAgenda, IsDuty, IsNoLook, IsNoChoice};
+ghost use Rattle.std.specs.Prelude.{◌≡◌, ◌≤◌, ◌<◌, ◌+◌, ◌%◌, [], true, length, if◌then◌else◌, MatchOption};
+ghost use Rattle.lg_loops.specs.Support.Acted.{IsAgenda, IsDuty, IsNoLook, IsNoAsking, IsSeedNext, IsMemberNext};
+ghost use Rattle.lg_loops.specs.Support.Acted.{IsNextAgenda, agenda_at};
 
 use crate::plan::Plan;
 use lg_rules::Addr;
@@ -18,19 +18,30 @@ pub const LOOK_MS: u64 = 1000;
 pub(crate) struct Agenda {
     /// The moment of the last look whether the seeds are to be asked, or of the loop's beginning.
     looked: u64,
-    /// The moment at which a member was chosen last, or of the loop's beginning.
-    chose: u64,
+    /// The moment at which a table was asked for in turn the last time, or that from which this is counted: when a look
+    /// said that the seeds are to be asked, or the loop began.
+    latest: u64,
+    /// How long it is from there until a table is asked for in turn, in milliseconds.
+    distance: u64,
+    /// Whether a seed is asked then, if there are seeds. Else it is a member.
+    is_seeds_turn: bool,
+    /// The number of the seed whose turn comes next, from 0.
+    next_seed: usize,
     /// How many of the seeds don't wait to be asked: the first ones.
     asked: usize,
+    /// Whether this member has left its group.
+    left: bool,
 }
 
 /// What is to be done if no tick is.
 #[derive(Clone, Copy, Debug)]
 pub(crate) enum Duty {
-    /// A seed at this address is to be asked.
+    /// A seed at this address, which waits, is to be asked.
     Seed(Addr),
     /// There is to be a look whether the seeds are to be asked.
     Look,
+    /// A seed at this address is to be asked, since it is its turn.
+    SeedInTurn(Addr),
     /// A member is to be chosen and asked.
     Member,
     /// Nothing, for this many milliseconds.
@@ -46,16 +57,37 @@ fn remaining(from: u64, interval: u64, now: Moment) -> u64
         .saturating_sub(now.milliseconds())
 }
 
+/// The number behind a number, in turn: 0 comes behind the last of so many.
+fn number_behind(number: usize, count: usize) -> usize
+    ensures { 0 < count → result ≡ (number + 1) % count }
+{
+    if count == 0 {
+        return 0;
+    }
+    (number % count + 1) % count
+}
+
 impl Agenda {
-    /// The agenda at the beginning of a loop.
+    /// The agenda at the beginning of a loop: no seed waits.
     pub(crate) fn begin(plan: &Plan, now: Moment) -> Agenda
         ensures { IsAgenda plan.now now [] result }
+    {
+        Agenda::at(plan, now, plan.seeds.len())
+    }
+
+    /// An agenda that counts everything from a moment. So many of the seeds, the first ones, don't wait.
+    fn at(plan: &Plan, now: Moment, asked: usize) -> Agenda
+        ensures { result ≡ agenda_at plan.now now asked }
     {
         let moment = now.milliseconds();
         Agenda {
             looked: moment,
-            chose: moment,
-            asked: plan.seeds.len(),
+            latest: moment,
+            distance: plan.pull_ms.min(plan.interval_ms),
+            is_seeds_turn: true,
+            next_seed: 0,
+            asked,
+            left: false,
         }
     }
 
@@ -70,15 +102,26 @@ impl Agenda {
         remaining(self.looked, LOOK_MS, now)
     }
 
-    /// How long it is until a member is asked. If none ever is, it is very long.
-    fn until_choice(&self, plan: &Plan, now: Moment) -> u64
-        ensures due { result ≡ 0 → (0 < plan.now.pull_ms) × (self.now.chose + plan.now.pull_ms ≤ now) }
-        ensures later { 0 < result → IsNoChoice plan.now self.now now }
+    /// How long it is until a table is asked for in turn. If none ever is, it is very long.
+    fn until_asking(&self, plan: &Plan, now: Moment) -> u64
+        ensures due { result ≡ 0 → (0 < plan.now.pull_ms) × (self.now.latest + self.now.distance ≤ now) }
+        ensures later { 0 < result → IsNoAsking plan.now self.now now }
     {
         if plan.pull_ms == 0 {
             return u64::MAX;
         }
-        remaining(self.chose, plan.pull_ms, now)
+        remaining(self.latest, self.distance, now)
+    }
+
+    /// The address of the seed whose turn it is, or none if it is that of a member.
+    fn seed_in_turn(&self, plan: &Plan) -> Option<Addr>
+        ensures { MatchOption result (IsMemberNext plan.now self.now) (IsSeedNext plan.now self.now) }
+    {
+        let count = plan.seeds.len();
+        if !self.is_seeds_turn || count == 0 {
+            return None;
+        }
+        Some(plan.seeds[self.next_seed % count].addr)
     }
 
     /// What is to be done at a moment.
@@ -92,14 +135,17 @@ impl Agenda {
         if look == 0 {
             return Duty::Look;
         }
-        let choice = self.until_choice(plan, now);
-        if choice == 0 {
-            return Duty::Member;
+        let asking = self.until_asking(plan, now);
+        if asking > 0 {
+            return Duty::Rest(look.min(asking));
         }
-        Duty::Rest(look.min(choice))
+        match self.seed_in_turn(plan) {
+            Some(peer) => Duty::SeedInTurn(peer),
+            None => Duty::Member,
+        }
     }
 
-    /// A seed was asked.
+    /// A seed that waited was asked.
     pub(crate) fn note_seed(&mut self)
         requires { self.old.asked < MAX_SEEDS }
         ensures { self.new ≡ record self.old { asked = self.old.asked + 1 } }
@@ -107,15 +153,22 @@ impl Agenda {
         self.asked += 1;
     }
 
-    /// There was a look, and the seeds are to be asked or not.
+    /// There was a look, and the seeds are to be asked or not. If they are, it is counted anew from here when tables
+    /// are asked for in turn.
     pub(crate) fn note_look(&mut self, plan: &Plan, now: Moment, asks: bool)
-        ensures { self.new ≡ record self.old {
-          looked = now;
-          asked = if asks then 0 else length plan.now.seeds.items;
-        } }
+        ensures { self.new ≡ (if asks then record (agenda_at plan.now now 0) { left = self.old.left }
+            else record self.old { looked = now; asked = length plan.now.seeds.items }) }
     {
+        if asks {
+            let left = self.left;
+            *self = Agenda {
+                left,
+                ..Agenda::at(plan, now, 0)
+            };
+            return;
+        }
         self.looked = now.milliseconds();
-        self.asked = if asks { 0 } else { plan.seeds.len() };
+        self.asked = plan.seeds.len();
     }
 
     /// A look was refused: it is put off to the next time.
@@ -125,10 +178,31 @@ impl Agenda {
         self.looked = now.milliseconds();
     }
 
-    /// A member was chosen, or none could be.
-    pub(crate) fn note_choice(&mut self, now: Moment)
-        ensures { self.new ≡ record self.old { chose = now } }
+    /// A table was asked for in turn, or was to be.
+    pub(crate) fn note_asking(&mut self, plan: &Plan, now: Moment)
+        ensures { IsNextAgenda plan.now now self.old self.new }
     {
-        self.chose = now.milliseconds();
+        if self.is_seeds_turn {
+            self.next_seed = number_behind(self.next_seed, plan.seeds.len());
+        }
+        self.is_seeds_turn = !self.is_seeds_turn;
+        self.distance = self.distance.saturating_mul(2).min(plan.pull_ms);
+        self.latest = now.milliseconds();
+    }
+
+    /// The member left: nobody is asked any more.
+    pub(crate) fn note_leave(&mut self)
+        ensures { self.new ≡ record self.old { distance = 0; asked = 0; left = true } }
+    {
+        self.distance = 0;
+        self.asked = 0;
+        self.left = true;
+    }
+
+    /// Whether this member has left.
+    pub(crate) fn has_left(&self) -> bool
+        ensures { result ≡ self.now.left }
+    {
+        self.left
     }
 }

@@ -8,7 +8,7 @@ ghost use Rattle.std.specs.Prelude.{◌≡◌, ◌⊎◌, ℕ, Ok, Err, MatchRes
 ghost use Rattle.lg_packet.specs.declared.fault.Fault.{Fault as Broken};
 ghost use Rattle.lg_packet.specs.declared.packet.Packet.{Packet as Read};
 ghost use Rattle.lg_packet.specs.Meaning.Reading.{packet_of};
-ghost use Rattle.lg_detector.specs.declared.event.Event.TheVariants.{Tick, Heard, Pull};
+ghost use Rattle.lg_detector.specs.declared.event.Event.TheVariants.{Tick, Heard, Pull, Leave};
 ghost use Rattle.lg_agent.specs.declared.refusal.Refusal.TheVariants.{BadPacket, NoMemory, HistoryFull};
 ghost use Rattle.lg_agent.specs.Meaning.Calls.{receipt_of, is_page, IsCall, IsRefusal, IsBadPacket, IsRotatedPass};
 ghost use Rattle.lg_loops.specs.Meaning.Turns.{MadeNoCall};
@@ -111,6 +111,29 @@ pub(crate) fn pull<A: AgentName, R: Wait, C>(
         Err(unasked) => {
             make_room(shared, pass, unasked)?;
             pass.pull_into(shared.rt, shared.alloc, now, peer, reply)
+        }
+    }
+}
+
+/// [`Pass::leave_into`], made again after a rotation if the history was full, with the same words.
+pub(crate) fn leave<A: AgentName, R: Wait, C>(
+    shared: &Shared<'_, R, C>,
+    pass: &mut Pass<'_, A>,
+    now: Moment,
+    words: [u32; 8],
+    reply: &mut Reply,
+) -> Result<u64, Refusal>
+    ensures answered { MatchResult result
+        (λ place. IsCall pass.old (Leave now words) (receipt_of place reply.new) pass.new)
+        (λ _. MadeNoCall pass.old pass.new) }
+    ensures kept { OnErr result (reply.new ≡ reply.old) }
+    ensures refusal { IfErr result (IsRefusal pass.old.seen) }
+{
+    match pass.leave_into(shared.rt, shared.alloc, now, words, reply) {
+        Ok(place) => Ok(place),
+        Err(refusal) => {
+            make_room(shared, pass, refusal)?;
+            pass.leave_into(shared.rt, shared.alloc, now, words, reply)
         }
     }
 }

@@ -9,7 +9,8 @@ use thiserror::Error;
 /// Why a loop ended.
 #[derive(Clone, Copy, Debug, PartialEq, Eq, Error)]
 pub enum Why {
-    /// It was told to stop, or its end time came.
+    /// It was told to stop, or its end time came. A ticking loop whose plan says so has left its group then, unless it
+    /// made no turn since the receiving one had no thread.
     #[error("the loop was told to stop, or its time was over")]
     Stopped,
     /// A claim about this member came that nothing can refute. The packets of that reply were handed over first.

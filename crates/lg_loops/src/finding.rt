@@ -68,11 +68,34 @@ pub(crate) fn ask_seed<A: AgentName, R: Wait, L: Link, C>(
     requires { agenda.old.asked < MAX_SEEDS }
     ensures { (plan : Planned) → (p : PassValue) → SeesNoneDue p now side.old.pass → now < plan.until
         → IsDuty plan agenda.old now (duty.Seed peer)
-        → (acted : Acted plan L.tells (line (L.log side.old.link) (L.failed side.old.link))
+        → (acted : Acted plan plan L.tells (line (L.log side.old.link) (L.failed side.old.link))
         (line (L.log side.new.link) (L.failed side.new.link)) p side.new.pass agenda.old agenda.new result)
         × (words_in acted.took.turn ≡ []) }
 {
     agenda.note_seed();
+    match calling::pull(shared, &mut side.pass, now, peer, reply) {
+        Ok(_) => Turned::of(shared, &mut side.link, now, reply),
+        Err(refusal) => Turned::refused(shared, refusal),
+    }
+}
+
+/// Asks the seed whose turn it is, whether it is known or not.
+pub(crate) fn ask_in_turn<A: AgentName, R: Wait, L: Link, C>(
+    shared: &Shared<'_, R, C>,
+    side: &mut Side<'_, L, A>,
+    plan: &Plan,
+    agenda: &mut Agenda,
+    now: Moment,
+    peer: Addr,
+    reply: &mut Reply,
+) -> Turned
+    ensures { (p : PassValue) → SeesNoneDue p now side.old.pass → now < plan.now.until
+        → IsDuty plan.now agenda.old now (duty.SeedInTurn peer)
+        → (acted : Acted plan.now plan.now L.tells (line (L.log side.old.link) (L.failed side.old.link))
+        (line (L.log side.new.link) (L.failed side.new.link)) p side.new.pass agenda.old agenda.new result)
+        × (words_in acted.took.turn ≡ []) }
+{
+    agenda.note_asking(plan, now);
     match calling::pull(shared, &mut side.pass, now, peer, reply) {
         Ok(_) => Turned::of(shared, &mut side.link, now, reply),
         Err(refusal) => Turned::refused(shared, refusal),
@@ -90,7 +113,7 @@ pub(crate) fn look<A: AgentName, R, L: Link, C>(
 ) -> Turned
     ensures { (p : PassValue) → SeesNoneDue p now side.old.pass → now < plan.now.until
         → IsDuty plan.now agenda.old now duty.Look
-        → (acted : Acted plan.now L.tells (line (L.log side.old.link) (L.failed side.old.link))
+        → (acted : Acted plan.now plan.now L.tells (line (L.log side.old.link) (L.failed side.old.link))
         (line (L.log side.new.link) (L.failed side.new.link)) p side.new.pass agenda.old agenda.new result)
         × (words_in acted.took.turn ≡ []) }
 {
@@ -114,12 +137,13 @@ pub(crate) fn ask_member<A: AgentName, R: Wait, L: Link, C, D: Dice>(
 ) -> Turned
     ensures { (p : PassValue) → SeesNoneDue p now ticker.old.side.pass → now < plan.now.until
         → IsDuty plan.now agenda.old now duty.Member
-        → (acted : Acted plan.now L.tells (line (L.log ticker.old.side.link) (L.failed ticker.old.side.link))
+        → (acted : Acted plan.now plan.now L.tells
+        (line (L.log ticker.old.side.link) (L.failed ticker.old.side.link))
         (line (L.log ticker.new.side.link) (L.failed ticker.new.side.link)) p ticker.new.side.pass agenda.old
         agenda.new result)
         × Threw D.throws ticker.old.dice (words_in acted.took.turn) ticker.new.dice }
 {
-    agenda.note_choice(now);
+    agenda.note_asking(plan, now);
     let Some(records) = others(&mut ticker.side.pass, shared.alloc, &plan.name) else {
         return Turned::on();
     };

@@ -75,7 +75,8 @@ fn receive_turn<A: AgentName, R: Wait, L: Link, C: Clock>(
     }
 }
 
-/// Hears the datagrams that come over a link, and hands the packets of the replies to it, until the stop flag is set.
+/// Hears the datagrams that come over a link, and hands the packets of the replies to it, until the ticking loop is
+/// over.
 ///
 /// It makes at most `shared.bound` turns, each of which waits for a datagram, `shared.wait_ms` milliseconds at most.
 /// If it is endless it then goes on, and counts them anew. A datagram whose bytes are no packet is dropped, and a
@@ -87,7 +88,7 @@ fn receive_turn<A: AgentName, R: Wait, L: Link, C: Clock>(
 /// couldn't be heard, and with [`Why::Ousted`] after a reply that says so. A datagram can't be heard if memory was
 /// refused, for the call or for the rotation. Nor can it be heard if the history is still full after a rotation:
 /// another pass has filled it meanwhile, or there were as many events as a detector accepts. It ends with
-/// [`Why::ReadBound`] only if it isn't endless. However the loop ends, it sets the stop flag for the others.
+/// [`Why::ReadBound`] only if it isn't endless. However the loop ends, it sets the stop flag for the ticking loop.
 pub fn receive_loop<A: AgentName, R: Wait, L: Link, C: Clock>(
     shared: &Shared<'_, R, C>,
     side: Side<'_, L, A>,
@@ -110,7 +111,7 @@ pub fn receive_loop<A: AgentName, R: Wait, L: Link, C: Clock>(
             continue;
         }
         shared.clock.begin_turn(Loop::Receiving);
-        if shared.stop.load(SeqCst) {
+        if shared.over.load(SeqCst) {
             return side.end_loop(shared.stop, stretch.end(Why::Stopped));
         }
         let turned = receive_turn(shared, &mut side, &mut buffer, &mut reply);

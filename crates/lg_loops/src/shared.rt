@@ -32,8 +32,10 @@ pub struct Shared<'a, R, C> {
     pub alloc: Global,
     /// The clock.
     pub clock: &'a C,
-    /// Whether the loops are to stop. A loop that ends sets it for the other one.
+    /// Whether the ticking loop is to stop. The receiving loop sets it too when it ends.
     pub stop: &'a AtomicBool,
+    /// Whether the ticking loop has ended, which sets it. Then the receiving one ends, and those who look.
+    pub over: &'a AtomicBool,
     /// Whether a Page was heard: then some member's table is known. The receiving loop sets it.
     pub page_heard: &'a AtomicBool,
     /// What the loops count for the status server.
@@ -112,13 +114,14 @@ impl<'a, L, A: AgentName> Side<'a, L, A> {
         }
     }
 
-    /// Ends the loop of this side: sets the stop flag for the other loop, and gives back what [`Side::ended`] does.
-    pub(crate) fn end_loop(self, stop: &AtomicBool, end: LoopEnd) -> Ended<L, A>
+    /// Ends the loop of this side: sets the flag by which the other loop ends, and gives back what [`Side::ended`]
+    /// does.
+    pub(crate) fn end_loop(self, flag: &AtomicBool, end: LoopEnd) -> Ended<L, A>
         ensures link { result.link ≡ self.entry.link }
         ensures spent { result.spent ≡ self.entry.pass }
         ensures end { result.end ≡ end }
     {
-        stop.store(true, SeqCst);
+        flag.store(true, SeqCst);
         self.ended(end)
     }
 

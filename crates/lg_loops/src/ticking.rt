@@ -2,9 +2,10 @@
 //!
 //! Defined in: `specs/Meaning/Turns.antt`, `specs/Meaning/Pulling.antt`, `specs/Support/Acted.antt`.
 //! Tested in: `lg_node_tests/src/node/ticking.rt`, `cases/groups`.
-ghost use Rattle.std.specs.Prelude.{◌≤◌, ◌<◌, IfSome};
+ghost use Rattle.std.specs.Prelude.{◌≡◌, ◌≤◌, ◌<◌, true, false, is_none, if◌then◌else◌, IfSome, MatchOption};
 ghost use Rattle.lg_agent.specs.Meaning.Values.{PassValue};
 ghost use Rattle.lg_loops.specs.declared.plan.Plan.{Plan as Planned};
+ghost use Rattle.lg_loops.specs.Meaning.Leaving.{lingering};
 ghost use Rattle.lg_loops.specs.Meaning.Pulling.{Ticking};
 ghost use Rattle.lg_loops.specs.Meaning.Turns.{line, words_in, SeesDue, Threw};
 ghost use Rattle.lg_loops.specs.Support.Acted.{Acted};
@@ -13,7 +14,7 @@ use crate::agenda::{Agenda, Duty};
 use crate::calling;
 use crate::dice::Dice;
 use crate::ending::{Ended, Why};
-use crate::finding::{ask_member, ask_seed, look};
+use crate::finding::{ask_in_turn, ask_member, ask_seed, look};
 use crate::link::Link;
 use crate::plan::Plan;
 use crate::shared::{MAX_TURNS, Shared, Side, Ticker};
@@ -35,7 +36,7 @@ fn tick<A: AgentName, R: Wait, L: Link, C, D: Dice>(
 ) -> Turned
     ensures { (plan : Planned) → (agenda : Agenda) → (p : PassValue) → SeesDue p now ticker.old.side.pass
         → now < plan.until
-        → (acted : Acted plan L.tells (line (L.log ticker.old.side.link) (L.failed ticker.old.side.link))
+        → (acted : Acted plan plan L.tells (line (L.log ticker.old.side.link) (L.failed ticker.old.side.link))
         (line (L.log ticker.new.side.link) (L.failed ticker.new.side.link)) p ticker.new.side.pass agenda agenda
         result)
         × Threw D.throws ticker.old.dice (words_in acted.took.turn) ticker.new.dice }
@@ -63,7 +64,8 @@ fn tick_turn<A: AgentName, R: Wait, L: Link, C: Clock, D: Dice>(
     reply: &mut Reply,
 ) -> Turned
     ensures { now < plan.now.until
-        → (acted : Acted plan.now L.tells (line (L.log ticker.old.side.link) (L.failed ticker.old.side.link))
+        → (acted : Acted plan.now plan.now L.tells
+        (line (L.log ticker.old.side.link) (L.failed ticker.old.side.link))
         (line (L.log ticker.new.side.link) (L.failed ticker.new.side.link)) ticker.old.side.pass
         ticker.new.side.pass agenda.old agenda.new result)
         × Threw D.throws ticker.old.dice (words_in acted.took.turn) ticker.new.dice }
@@ -79,6 +81,9 @@ fn tick_turn<A: AgentName, R: Wait, L: Link, C: Clock, D: Dice>(
     match agenda.duty(plan, now) {
         Duty::Seed(peer) => ask_seed(shared, &mut ticker.side, agenda, now, peer, reply),
         Duty::Look => look(shared, &mut ticker.side, plan, agenda, now),
+        Duty::SeedInTurn(peer) => {
+            ask_in_turn(shared, &mut ticker.side, plan, agenda, now, peer, reply)
+        }
         Duty::Member => ask_member(shared, ticker, plan, agenda, now, reply),
         Duty::Rest(limit) => {
             let pause = (deadline - moment).min(limit).min(shared.wait_ms);
@@ -88,12 +93,17 @@ fn tick_turn<A: AgentName, R: Wait, L: Link, C: Clock, D: Dice>(
     }
 }
 
-/// The moment of the next turn, or none if the loop is to stop.
-fn next_moment<R, C: Clock>(shared: &Shared<'_, R, C>, until: Moment) -> Option<Moment>
+/// The moment of the next turn, or none if the loop is to stop: its end time has come, or, if it heeds the stop flag,
+/// that flag is set.
+fn next_moment<R, C: Clock>(
+    shared: &Shared<'_, R, C>,
+    until: Moment,
+    heeds_stop: bool,
+) -> Option<Moment>
     ensures { IfSome result (λ now. now < until) }
 {
     shared.clock.begin_turn(Loop::Ticking);
-    if shared.stop.load(SeqCst) {
+    if heeds_stop && shared.stop.load(SeqCst) {
         return None;
     }
     let now = shared.clock.now();
@@ -104,6 +114,67 @@ fn next_moment<R, C: Clock>(shared: &Shared<'_, R, C>, until: Moment) -> Option<
     }
 }
 
+/// The turn of a loop that is to stop, if this member leaves then: it leaves its group at a moment, and the packets
+/// that tell others are handed over. If the call isn't refused, the loop lingers behind it. The reply is written over
+/// `reply`.
+fn depart<A: AgentName, R: Wait, L: Link, C, D: Dice>(
+    shared: &Shared<'_, R, C>,
+    ticker: &mut Ticker<'_, L, A, D>,
+    plan: &mut Plan,
+    agenda: &mut Agenda,
+    now: Moment,
+    reply: &mut Reply,
+) -> Turned
+    ensures acted { plan.old.leaves ≡ true
+        → (acted : Acted plan.old plan.new L.tells
+        (line (L.log ticker.old.side.link) (L.failed ticker.old.side.link))
+        (line (L.log ticker.new.side.link) (L.failed ticker.new.side.link)) ticker.old.side.pass
+        ticker.new.side.pass agenda.old agenda.new result)
+        × Threw D.throws ticker.old.dice (words_in acted.took.turn) ticker.new.dice }
+    ensures plan { plan.new ≡ (if is_none result.why then lingering plan.old now else plan.old) }
+{
+    match calling::leave(
+        shared,
+        &mut ticker.side.pass,
+        now,
+        ticker.dice.words(),
+        reply,
+    ) {
+        Ok(_) => {
+            plan.linger(now);
+            agenda.note_leave();
+            Turned::handed(shared, &mut ticker.side.link, now, reply)
+        }
+        Err(refusal) => Turned::refused(shared, refusal),
+    }
+}
+
+/// The next turn of a loop, or none if it is to stop and this member doesn't leave, or has left. A reply is written
+/// over `reply`.
+fn next_turn<A: AgentName, R: Wait, L: Link, C: Clock, D: Dice>(
+    shared: &Shared<'_, R, C>,
+    ticker: &mut Ticker<'_, L, A, D>,
+    plan: &mut Plan,
+    agenda: &mut Agenda,
+    reply: &mut Reply,
+) -> Option<Turned>
+    ensures { MatchOption result ((plan.old.leaves ≡ false) × (ticker.new ≡ ticker.old))
+        (λ turned. (acted : Acted plan.old plan.new L.tells
+        (line (L.log ticker.old.side.link) (L.failed ticker.old.side.link))
+        (line (L.log ticker.new.side.link) (L.failed ticker.new.side.link)) ticker.old.side.pass
+        ticker.new.side.pass agenda.old agenda.new turned)
+        × Threw D.throws ticker.old.dice (words_in acted.took.turn) ticker.new.dice) }
+{
+    let Some(now) = next_moment(shared, plan.until, !agenda.has_left()) else {
+        if !plan.leaves {
+            return None;
+        }
+        let now = shared.clock.now();
+        return Some(depart(shared, ticker, plan, agenda, now, reply));
+    };
+    Some(tick_turn(shared, ticker, plan, agenda, now, reply))
+}
+
 /// Ticks whenever the next deadline has come, and hands the packets of the replies to a link, until the stop flag is
 /// set or its end time comes. Meanwhile it finds its group, as the plan says.
 ///
@@ -111,11 +182,17 @@ fn next_moment<R, C: Clock>(shared: &Shared<'_, R, C>, until: Moment) -> Option<
 /// 1. It asks a seed that waits for this, with a Pull.
 /// 2. It looks at the members, once in [`LOOK_MS`](crate::LOOK_MS) milliseconds. If no Page was heard so far, or each
 ///    other member that it knows has failed, all seeds wait to be asked.
-/// 3. It asks a member that random words choose of all that it knows, failed ones too, once in `plan.pull_ms`
-///    milliseconds. If it knows nobody, it tries again after that time.
+/// 3. It asks a seed and a member in turn for a table, the seed first. The seeds take turns among each other. A member
+///    is one that random words choose of all that it knows, failed ones too; if it knows nobody, nobody is asked. It
+///    does so one interval after it began, or after a look by which all seeds waited. Each further time comes twice as
+///    long after the one before, but at most `plan.pull_ms` milliseconds after it.
 /// 4. It pauses, until the first of these is due, `shared.wait_ms` milliseconds at most.
 ///
 /// A look that is refused is put off to its next time. It allocates memory for 256 records.
+///
+/// When it is to stop, and `plan.leaves` says so, this member leaves its group, and the packets that tell some members
+/// at once are handed over ([`Pass::leave`](lg_agent::Pass::leave)). Then the loop goes on for one interval, and
+/// doesn't heed the stop flag. Meanwhile it only ticks, so that others hear of the leave, and asks nobody.
 ///
 /// It makes at most `shared.bound` turns. If it is endless it then goes on, and counts them anew. A packet that isn't
 /// sent is lost, and counted. A full history ends nothing: it is rotated, as
@@ -124,21 +201,22 @@ fn next_moment<R, C: Clock>(shared: &Shared<'_, R, C>, until: Moment) -> Option<
 /// It ends with [`Why::Refused`] if a call was refused or a look at the next deadline, and with [`Why::Ousted`] after a
 /// reply that says so. A call is refused if memory is, for it or for the rotation. It is also refused if the history is
 /// still full after a rotation: another pass has filled it meanwhile, or there were as many events as a detector
-/// accepts. It ends with [`Why::ReadBound`] only if it isn't endless. However the loop ends, it sets the stop flag for
-/// the others.
+/// accepts. It ends with [`Why::ReadBound`] only if it isn't endless. It leaves at none of these ends. However the loop
+/// ends, it sets the flag by which the receiving loop ends.
 pub fn tick_loop<A: AgentName, R: Wait, L: Link, C: Clock, D: Dice + Drop>(
     shared: &Shared<'_, R, C>,
     side: Side<'_, L, A>,
     dice: D,
-    plan: &Plan,
+    plan: Plan,
 ) -> Ended<L, A>
     requires { shared.now.bound ≤ MAX_TURNS }
-    ensures { Ticking D.throws dice plan.now L.tells shared.now.bound shared.now.endless
+    ensures { Ticking D.throws dice plan L.tells shared.now.bound shared.now.endless
         (line (L.log side.entry.link) (L.failed side.entry.link))
         (line (L.log result.link) (L.failed result.link)) side.entry.pass result.spent result.end }
 {
     let mut ticker = Ticker { side, dice };
-    let mut agenda = Agenda::begin(plan, shared.clock.now());
+    let mut agenda = Agenda::begin(&plan, shared.clock.now());
+    let mut plan = plan;
     let mut reply = Reply::default();
     let mut stretch = Stretch::new();
     for _ in shared.rt.forever() {
@@ -146,18 +224,17 @@ pub fn tick_loop<A: AgentName, R: Wait, L: Link, C: Clock, D: Dice + Drop>(
             if !shared.endless {
                 return ticker
                     .side
-                    .end_loop(shared.stop, stretch.end(Why::ReadBound));
+                    .end_loop(shared.over, stretch.end(Why::ReadBound));
             }
             stretch = Stretch::new();
             continue;
         }
-        let Some(now) = next_moment(shared, plan.until) else {
-            return ticker.side.end_loop(shared.stop, stretch.end(Why::Stopped));
+        let Some(turned) = next_turn(shared, &mut ticker, &mut plan, &mut agenda, &mut reply) else {
+            return ticker.side.end_loop(shared.over, stretch.end(Why::Stopped));
         };
-        let turned = tick_turn(shared, &mut ticker, plan, &mut agenda, now, &mut reply);
         stretch.add(&turned);
         if let Some(why) = turned.why {
-            return ticker.side.end_loop(shared.stop, stretch.end(why));
+            return ticker.side.end_loop(shared.over, stretch.end(why));
         }
     }
     unreachable!()

@@ -90,8 +90,6 @@ impl Turned {
         ensures why { result.why ≡ (if reply.now.ousted then Some Ousted else None) }
         ensures dropped { result.dropped ≡ 0 }
     {
-        let noted = hand_over(link, &shared.counters.name(), reply);
-        shared.note(now, reply, &noted);
         let why = if reply.ousted {
             Some(Why::Ousted)
         } else {
@@ -99,6 +97,28 @@ impl Turned {
         };
         Turned {
             why,
+            ..Turned::handed(shared, link, now, reply)
+        }
+    }
+
+    /// A call was answered at a moment by this reply: hands its packets to the link, and counts. Whatever the reply
+    /// says, it doesn't end the loop.
+    pub(crate) fn handed<R: Wait, C, L: Link>(
+        shared: &Shared<'_, R, C>,
+        link: &mut L,
+        now: Moment,
+        reply: &Reply,
+    ) -> Turned
+        ensures handed { WereHanded L.tells (L.log link.old) (L.log link.new) (L.failed link.old) (L.failed link.new)
+            reply.now.sends.items result.unsent }
+        ensures few { result.unsent ≤ 8 }
+        ensures why { result.why ≡ None }
+        ensures dropped { result.dropped ≡ 0 }
+    {
+        let noted = hand_over(link, &shared.counters.name(), reply);
+        shared.note(now, reply, &noted);
+        Turned {
+            why: None,
             dropped: 0,
             unsent: noted.unsent,
         }

@@ -14,7 +14,7 @@ use Rattle.lg_rules.proofs.KeyOrder.{names_order, other_key}
 use Rattle.lg_rules.proofs.PastLaws.{earliest_passes, unbeaten_some}
 use Rattle.lg_rules.proofs.Ranks.{ranked}
 use Rattle.lg_gossip.specs.Meaning.Queue.{is_suspect}
-use Rattle.lg_membership.specs.Meaning.Log.{GroupLog, Opened, Said, Sent, said}
+use Rattle.lg_membership.specs.Meaning.Log.{GroupLog, Opened, Said, Sent, Departed, said}
 use Rattle.lg_membership.specs.Meaning.Suspicions.{accuses, accusers_in, raise_of}
 
 -- whether some claim of a past accuses a member at an incarnation
@@ -41,6 +41,7 @@ none_raises m i (Said now origin c ∷ log) e = elim (cases_Bool (accuses m i c)
   | inr f ↦ (let rest : is_accused m i (said log) ≡ false = rw f at e in rw (f, none_raises m i log rest) refl)
 ]
 none_raises m i (Sent taken ∷ log) e = none_raises m i log e
+none_raises m i (Departed ∷ log) e = none_raises m i log e
 
 -- where one accuses, there is such a log
 or_there : {A : Type 0} (o : Option A) (x : A) → or_else o (Some x) ≢ None
@@ -61,6 +62,7 @@ one_raises m i (Said now origin c ∷ log) e = elim (cases_Bool (accuses m i c))
       or_before (raise_of m i log) _ (one_raises m i log rest))
 ]
 one_raises m i (Sent taken ∷ log) e = one_raises m i log e
+one_raises m i (Departed ∷ log) e = one_raises m i log e
 
 -- the earliest of some claims is one of them
 or_of : {A : Type 0} (o p : Option A) (r : A) → or_else o p ≡ Some r → (o ≡ Some r) ⊎ (p ≡ Some r)

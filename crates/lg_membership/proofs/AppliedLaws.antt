@@ -24,7 +24,7 @@ use Rattle.lg_suspicion.specs.Meaning.Accusers.{accuser_counts, deadline_of}
 use Rattle.lg_membership.specs.declared.applied.Applied.{Applied}
 use Rattle.lg_membership.specs.declared.applied.Deadline.{Deadline}
 use Rattle.lg_membership.specs.declared.origin.Origin.{Origin}
-use Rattle.lg_membership.specs.Meaning.Log.{GroupLog, Said, config, me, said, own, table, group_view, live_others, opening_addr}
+use Rattle.lg_membership.specs.Meaning.Log.{GroupLog, Said, config, me, own_facts, said, own, table, group_view, live_others, opening_addr}
 use Rattle.lg_membership.specs.Meaning.Suspicions.{SuspectedValue, suspicions, suspected_name}
 use Rattle.lg_membership.specs.Meaning.Applied.{record_in, suspicion_in, is_refuted, IsRecordChange, IsDeadlineChange, IsApplied}
 use Rattle.lg_membership.specs.Support.Changes.{Change, Nothing, Ending, Putting, raised, ended, overriding, accusing}
@@ -53,7 +53,7 @@ view_record log m = row_at name_cmp name_of m (view_of (own_record (own log)) (t
 
 differs : (now : ℕ) (origin : Origin) (c : Claim) (log : GroupLog) → changes_record (standing (group_state_of log)) c ≡ true
     → view_record (Said now origin c ∷ log) c.name ≢ view_record log c.name
-differs now origin c log t = elim (view_hearing (me log) (opening_addr (config log)) c (said log)) [
+differs now origin c log t = elim (view_hearing (me log) (opening_addr (config log)) c (own_facts log)) [
   | Changes change ↦ λ same. follows_another change.r (view_record log c.name) change.follows (sym same ∙ change.row)
   | Leaves none same ↦ absurd (false≢true (sym none ∙ t))
 ]

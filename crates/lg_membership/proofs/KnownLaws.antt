@@ -9,7 +9,7 @@ use Rattle.lg_rules.proofs.Roster.{rises-roster, roster-own, length-roster, own_
 use Rattle.lg_rules.proofs.Tables.{IsTaken, Taken, Unbeaten, Out, heard_cases}
 use Rattle.lg_timing.specs.declared.config.Config.{Config}
 use Rattle.lg_membership.specs.declared.origin.Origin.{Origin}
-use Rattle.lg_membership.specs.Meaning.Log.{GroupFact, GroupLog, Opened, Said, Sent, me, said, known}
+use Rattle.lg_membership.specs.Meaning.Log.{GroupFact, GroupLog, Opened, Said, Sent, Departed, me, said, known}
 
 pub rises-known : (log : GroupLog) → Rises name_cmp (known log)
 rises-known log = rises-put names_order (me log) (roster (me log) (said log)) (rises-roster (me log) (said log))
@@ -94,9 +94,11 @@ pub others-stay : (fact : GroupFact) (log : GroupLog) (m : List ℕ) → ((openi
 others-stay (Opened opening) log m unopened among = absurd (unopened opening refl)
 others-stay (Said now origin c) log m unopened among = others-grow now origin log c m among
 others-stay (Sent taken) log m unopened among = among
+others-stay Departed log m unopened among = among
 
 pub known-stays : (fact : GroupFact) (log : GroupLog) (m : List ℕ) → ((opening : Config) → fact ≢ Opened opening)
     → is_among name_cmp m (known log) ≡ true → is_among name_cmp m (known (fact ∷ log)) ≡ true
 known-stays (Opened opening) log m unopened among = absurd (unopened opening refl)
 known-stays (Said now origin c) log m unopened among = known-grows now origin log c m among
 known-stays (Sent taken) log m unopened among = among
+known-stays Departed log m unopened among = among

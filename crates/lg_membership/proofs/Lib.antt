@@ -17,6 +17,7 @@ pub mod ChangedRows
 pub mod Differing
 pub mod LiveOthers
 pub mod AppliedLaws
+pub mod LeaveLaws
 pub mod PageLaws
 pub mod Paging
 pub mod RowsByNames

@@ -1,4 +1,4 @@
--- The queue, when a claim is said or a packet is sent.
+-- The queue, when a claim is said, a packet is sent, or this member leaves.
 use Rattle.std.proofs.Common.{◌≡◌, ◌≢◌, ℕ, cond, List, [], ◌∷◌, map, Option, Some, None, inl, inr, refl, sym, ◌∙◌, ap}
 use Rattle.std.specs.Prelude.{filter_map, option_map}
 use Rattle.std.proofs.lemmas.Bool.{cases_Bool}
@@ -18,13 +18,13 @@ use Rattle.lg_timing.specs.Meaning.Config.{version_of}
 use Rattle.lg_gossip.specs.declared.queued.Queued.{Queued}
 use Rattle.lg_gossip.specs.Meaning.Queue.{fresh, is_below, may_send_about, queued_name, sent_once}
 use Rattle.lg_membership.specs.declared.origin.Origin.{Origin}
-use Rattle.lg_membership.specs.Meaning.Log.{GroupLog, Opened, Said, Sent, config, me, said, own, opening_addr, table, known, live}
+use Rattle.lg_membership.specs.Meaning.Log.{GroupLog, Opened, Said, Sent, Departed, config, me, own_facts, said, own, opening_addr, table, known, live}
 use Rattle.lg_membership.specs.Meaning.Suspicions.{suspicions}
-use Rattle.lg_membership.specs.Meaning.Gossip.{lambda_in, version_sent, own_arrival, put_of_other, queued_by}
+use Rattle.lg_membership.specs.Meaning.Gossip.{lambda_in, version_sent, own_arrival, put_of_other, put_of_leave, queued_by}
 use Rattle.lg_membership.specs.Meaning.Gossip.{send_limit_after, own_waits, queued, queue_rows, queue}
 use Rattle.lg_membership.specs.Support.State.{queue_with, blank_queue, opened_queue}
 use Rattle.lg_membership.proofs.KnownLaws.{rises-known, own_known, known-own, known-taken, known-passed}
-use Rattle.lg_membership.proofs.QueuedLaws.{put_after, put_about_own, arrival_name, queued-sent, put_by-own, put_by-other, put_by-grows}
+use Rattle.lg_membership.proofs.QueuedLaws.{put_after, put_about_own, arrival_name, leave_name, queued-sent, queued-left, put_by-own, put_by-other, put_by-grows}
 use Rattle.lg_membership.proofs.QueuedLaws.{queued_keyed, queued_unknown, by-put, by-put_other, queued-put, queued-put_other, queued-no_put}
 
 abbrev names_after : ℕ → Origin → GroupLog → Claim → List (List ℕ)
@@ -98,11 +98,34 @@ pub queue-sent : (log : GroupLog) (taken : List Claim) → map (sent_once taken)
 unfolding queue_rows
 queue-sent log taken = rows-map (sent_once taken) (queued log) (queued (Sent taken ∷ log)) (known log) (queued-sent log taken)
 
+-- the queue once this member left
+rows-left : (log : GroupLog) (p : Claim) → put_of_leave (own log) ≡ Some p
+    → put_row name_cmp queued_name (fresh (version_sent (config log)) p) (queue_rows log) ≡ queue_rows (Departed ∷ log)
+unfolding queue_rows
+rows-left log p put =
+    let v = version_sent (config log) in
+    rows-put names_order queued_name (queued log) (queued (Departed ∷ log)) (fresh v p) (known log) (rises-known log) (queued_keyed log)
+    (queued-left log (Some p) p.name put ∙ by-put v p (queued log p.name))
+    (λ n other. queued-left log (Some p) n put ∙ by-put_other v p n (queued log n) other)
+    ∙ ap (λ n. filter_map (queued (Departed ∷ log)) (put_key name_cmp n (known log))) (leave_name log p put)
+    ∙ ap (filter_map (queued (Departed ∷ log))) (put-there names_order (me log) (known log) (rises-known log) (own_known log))
+
+no_rows-left : (log : GroupLog) → put_of_leave (own log) ≡ None → queue_rows log ≡ queue_rows (Departed ∷ log)
+unfolding queue_rows
+no_rows-left log none = sym (rows_equal (queued log) (queued (Departed ∷ log)) (known log) (λ n. queued-left log None n none))
+
+queue-leaves : (log : GroupLog) (o : Option Claim) → put_of_leave (own log) ≡ o → queue_with o (queue log) ≡ queue (Departed ∷ log)
+queue-leaves log None is = λ i. record { lambda = lambda_in (config log); version = version_sent (config log); rows = no_rows-left log is i }
+queue-leaves log (Some p) is = λ i. record { lambda = lambda_in (config log); version = version_sent (config log); rows = rows-left log p is i }
+
+pub queue-left : (log : GroupLog) → queue_with (put_of_leave (own log)) (queue log) ≡ queue (Departed ∷ log)
+queue-left log = queue-leaves log (put_of_leave (own log)) refl
+
 -- Whether this member's own record still waits, by the queue.
 own_row : (log : GroupLog) → row_at name_cmp queued_name (own log).name (queue_rows log) ≡ queued log (me log)
 unfolding queue_rows
 own_row log =
-    ap (λ (n : List ℕ). row_at name_cmp queued_name n (queue_rows log)) (own_of_name (me log) (opening_addr (config log)) (said log))
+    ap (λ (n : List ℕ). row_at name_cmp queued_name n (queue_rows log)) (own_of_name (me log) (opening_addr (config log)) (own_facts log))
     ∙ row_at-rows names_order queued_name (queued log) (me log) (known log) (rises-known log) (queued_keyed log)
     ∙ ap (λ b. cond b (queued log (me log)) None) (own_known log)
 

@@ -7,7 +7,7 @@ use Rattle.lg_rules.specs.declared.claim.Claim.{Claim}
 use Rattle.lg_rules.specs.declared.own.OwnHeard.{OwnHeard}
 use Rattle.lg_rules.specs.declared.own.OwnHeard.TheVariants.{Refuted, Raised, Ousted, Ignored}
 use Rattle.lg_rules.specs.declared.version.Version.{Version}
-use Rattle.lg_rules.specs.Meaning.Own.{OwnValue, own_hearing, own_heard, own_of, own_record}
+use Rattle.lg_rules.specs.Meaning.Own.{OwnValue, own_hearing, own_heard, own_left, own_of, own_record}
 use Rattle.lg_rules.specs.Meaning.Rows.{name_cmp, is_same, is_among, put_key, row_at}
 use Rattle.lg_rules.specs.Meaning.Table.{takes, roster}
 use Rattle.lg_rules.proofs.Cases.{Missing, Holding, held, held_once}
@@ -23,10 +23,10 @@ use Rattle.lg_gossip.specs.declared.queued.Queued.{Queued}
 use Rattle.lg_gossip.specs.Meaning.Queue.{fresh, queued_name, sent_once}
 use Rattle.lg_membership.specs.declared.origin.Origin.{Origin}
 use Rattle.lg_membership.specs.declared.origin.Origin.TheVariants.{Seed, Group}
-use Rattle.lg_membership.specs.Meaning.Log.{GroupLog, Opened, Said, Sent, config, me, said, own, table, known}
+use Rattle.lg_membership.specs.Meaning.Log.{GroupLog, Opened, Said, Sent, Departed, config, me, own_facts, said, own, table, known}
 use Rattle.lg_membership.specs.Meaning.Suspicions.{SuspectedValue, suspicions, confirms}
 use Rattle.lg_membership.specs.Meaning.Gossip.{tells_news, answers_doubt, own_arrival, put_of_own, put_if_answered, put_of_oneself}
-use Rattle.lg_membership.specs.Meaning.Gossip.{put_if, put_of_other, put_by, queued_by, version_sent, queued, own_waits}
+use Rattle.lg_membership.specs.Meaning.Gossip.{put_if, put_of_other, put_by, put_if_leaves, put_of_leave, queued_by, version_sent, queued, own_waits}
 use Rattle.lg_membership.proofs.KnownLaws.{rises-known, own_known, known-own, known-taken, known-passed, known-grows, roster_known}
 
 -- What a claim puts into the queue, if it is said after a log: about oneself or another.
@@ -61,7 +61,7 @@ pub own_put_name : (log : GroupLog) (c p : Claim) → put_about_own log c ≡ So
 own_put_name log c p e =
     put_answered_name (answers_doubt (version_sent (config log)) (own_waits log) (own log) c) (own_hearing (own log) c) (own_heard (own log) c) p e
     ∙ own_heard_name (own log) c
-    ∙ own_of_name (me log) _ (said log)
+    ∙ own_of_name (me log) _ (own_facts log)
 
 -- and so is what the opening puts
 if_arrived : (b : Bool) (oneself : OwnValue) (p : Claim) → cond b (Some (own_record oneself)) None ≡ Some p → p.name ≡ oneself.name
@@ -71,6 +71,14 @@ if_arrived false oneself p e = absurd cc
 pub arrival_name : (opening : Config) (p : Claim) → own_arrival (version_of opening) (own_of opening.name opening.addr []) ≡ Some p → p.name ≡ opening.name
 arrival_name opening p e =
     if_arrived (tells_news (version_of opening)) (own_of opening.name opening.addr []) p e ∙ own_of_name opening.name opening.addr []
+
+-- and what a leave puts
+if_leaves_name : (b : Bool) (oneself : OwnValue) (p : Claim) → put_if_leaves b oneself ≡ Some p → p.name ≡ oneself.name
+if_leaves_name true oneself p e = absurd cc
+if_leaves_name false oneself p e = ap (λ (r : Claim). r.name) (sym (held_once (own_record oneself) p e))
+
+pub leave_name : (log : GroupLog) (p : Claim) → put_of_leave (own log) ≡ Some p → p.name ≡ me log
+leave_name log p e = if_leaves_name (own log).left (own_left (own log)) p e ∙ own_of_name (me log) _ (own_facts log)
 
 -- What is queued about a name is about it.
 queued_by_name : (v : Version) (o : Option Claim) (before : Option Queued) (m : List ℕ) (q : Queued) → (before ≡ Some q → queued_name q ≡ m)
@@ -97,6 +105,8 @@ queued_keyed (Opened opening ∷ log) m r e =
 queued_keyed (Said now origin c ∷ log) m r e =
     queued_by_name (version_sent (config log)) (put_after origin log c) (queued log m) m r (queued_keyed log m r) e
 queued_keyed (Sent taken ∷ log) m r e = sent_name taken (queued log m) m r (queued_keyed log m) e
+queued_keyed (Departed ∷ log) m r e =
+    queued_by_name (version_sent (config log)) (put_of_leave (own log)) (queued log m) m r (queued_keyed log m r) e
 
 -- What a claim about another puts is the claim.
 if_is : (origin : Origin) (b : Bool) (c p : Claim) → put_if origin b c ≡ Some p → c ≡ p
@@ -172,6 +182,9 @@ queued_known (Said now origin c ∷ log) m q e =
     queued_by_known (version_sent (config log)) (put_after origin log c) (queued log m) m q (known (Said now origin c ∷ log))
     (put_by_known now origin log c) (λ before. known-grows now origin log c m (queued_known log m q before)) e
 queued_known (Sent taken ∷ log) m q e = sent_known taken (queued log m) (is_among name_cmp m (known log) ≡ true) q (queued_known log m) e
+queued_known (Departed ∷ log) m q e =
+    queued_by_known (version_sent (config log)) (put_of_leave (own log)) (queued log m) m q (known log)
+    (λ p is. ap (λ n. is_among name_cmp n (known log)) (leave_name log p is) ∙ own_known log) (queued_known log m q) e
 
 -- so nothing is queued about a name that isn't known
 pub queued_unknown : (log : GroupLog) (m : List ℕ) → is_among name_cmp m (known log) ≡ false → queued log m ≡ None
@@ -205,3 +218,8 @@ queued-no_put now origin log c e n = queued-by now origin log c None n e
 pub queued-sent : (log : GroupLog) (taken : List Claim) (m : List ℕ) → queued (Sent taken ∷ log) m ≡ option_map (sent_once taken) (queued log m)
 unfolding queued
 queued-sent log taken m = refl
+
+-- A leave puts this member's own record, or nothing.
+pub queued-left : (log : GroupLog) (o : Option Claim) (n : List ℕ) → put_of_leave (own log) ≡ o → queued (Departed ∷ log) n ≡ queued_by (version_sent (config log)) o n (queued log n)
+unfolding queued
+queued-left log o n e = ap (λ put. queued_by (version_sent (config log)) put n (queued log n)) e

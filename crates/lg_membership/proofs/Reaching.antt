@@ -7,11 +7,11 @@ use Rattle.lg_timing.specs.declared.config.Config.{Config}
 use Rattle.lg_timing.specs.Meaning.Config.{IsChecked}
 use Rattle.lg_membership.specs.declared.origin.Origin.{Origin}
 use Rattle.lg_membership.specs.declared.origin.Origin.TheVariants.{Group}
-use Rattle.lg_membership.specs.Meaning.Log.{Opened, Said, Sent}
+use Rattle.lg_membership.specs.Meaning.Log.{Opened, Said, Sent, Departed}
 use Rattle.lg_membership.specs.Support.State.{GroupState, open_group, apply_own, apply_other, apply_to_group}
-use Rattle.lg_membership.specs.Support.State.{apply_all_to_group, send_from_group}
+use Rattle.lg_membership.specs.Support.State.{apply_all_to_group, leave_group, send_from_group}
 use Rattle.lg_membership.specs.Support.Reached.{IsGood, IsGroupReached}
-use Rattle.lg_membership.proofs.FactLaws.{open-state, apply-state, send-state}
+use Rattle.lg_membership.proofs.FactLaws.{open-state, apply-state, send-state, leave-state}
 
 pub config-apply : (now : ℕ) (origin : Origin) (c : Claim) (s : GroupState) → (apply_to_group now origin c s).config ≡ s.config
 unfolding apply_to_group
@@ -61,5 +61,12 @@ pub reached-send : (s after : GroupState) (taken : GroupState → List Claim) �
 reached-send s after taken e r = record {
   log = Sent _ ∷ r.log;
   is = e ∙ ap (λ t. send_from_group (taken t) t) r.is ∙ send-state _ r.log;
+  good = good_still s after (ap (λ (t : GroupState). t.config) e) r.good;
+}
+
+pub reached-leave : (s after : GroupState) → after ≡ leave_group s → IsGroupReached s → IsGroupReached after
+reached-leave s after e r = record {
+  log = Departed ∷ r.log;
+  is = e ∙ ap leave_group r.is ∙ leave-state r.log;
   good = good_still s after (ap (λ (t : GroupState). t.config) e) r.good;
 }

@@ -1,8 +1,9 @@
 -- In a state that some log has, each claim can be applied.
 use Rattle.std.proofs.Common.{◌≡◌, ◌≢◌, ℕ, ◌<◌, ◌≤◌, true, false, cond, List, ◌∷◌, length, Option, Some, None, refl, sym, ◌∙◌, ap, subst}
 use Rattle.lg_rules.specs.declared.claim.Claim.{Claim}
-use Rattle.lg_rules.specs.Meaning.Rows.{name_cmp, is_same, row_at}
+use Rattle.lg_rules.specs.Meaning.Rows.{name_cmp, is_same, put_key, row_at}
 use Rattle.lg_rules.proofs.KeyOrder.{names_order, same_key, other_key}
+use Rattle.lg_rules.proofs.Rises.{put-there}
 use Rattle.lg_rules.proofs.RowLaws.{rows_room}
 use Rattle.lg_rules.specs.Meaning.Claim.{name_of}
 use Rattle.lg_rules.specs.Meaning.Table.{record_of, takes}
@@ -14,15 +15,15 @@ use Rattle.lg_membership.specs.declared.origin.Origin.{Origin}
 use Rattle.lg_membership.specs.declared.origin.Origin.TheVariants.{Group}
 use Rattle.lg_membership.specs.Meaning.Log.{GroupLog, Said, config, me, said, own, table, known}
 use Rattle.lg_membership.specs.Meaning.Suspicions.{suspicions, suspected_name}
-use Rattle.lg_membership.specs.Meaning.Gossip.{version_sent, put_of_oneself, put_of_other, put_by, queued, queue_rows, queue}
+use Rattle.lg_membership.specs.Meaning.Gossip.{version_sent, put_of_oneself, put_of_other, put_of_leave, put_by, queued, queue_rows, queue}
 use Rattle.lg_membership.specs.Support.Reached.{IsGroupReached}
 use Rattle.lg_membership.specs.Support.State.{GroupState, group_state_of, put_in, own_put_in}
 use Rattle.lg_membership.specs.Support.Room.{HasPlace, HasSeat, HasRoom, IsOrdered}
 use Rattle.lg_membership.proofs.FactLaws.{own_name}
-use Rattle.lg_membership.proofs.KnownLaws.{rises-known, length-known}
+use Rattle.lg_membership.proofs.KnownLaws.{rises-known, length-known, own_known}
 use Rattle.lg_membership.proofs.SuspicionLaws.{seat_of, rises-suspicions}
 use Rattle.lg_membership.proofs.QueueLaws.{waits-log}
-use Rattle.lg_membership.proofs.QueuedLaws.{put_after, queued_keyed, put_by-grows}
+use Rattle.lg_membership.proofs.QueuedLaws.{put_after, queued_keyed, put_by-grows, leave_name}
 
 -- what a claim puts is about a name that is known then, of which there are at most 256
 place_of : (origin : Origin) (log : GroupLog) (c p : Claim) → put_after origin log c ≡ Some p → row_at name_cmp queued_name p.name (queue_rows log) ≡ None → length (queue_rows log) < 256
@@ -41,6 +42,15 @@ put_in-log origin log c =
     let put = put_of_other origin (table log) (suspicions log) c in
     ap (λ n. cond (is_same name_cmp c.name n) (own_put_in c (group_state_of log)) put) (own_name log)
     ∙ ap (λ w. cond (is_same name_cmp c.name (me log)) (put_of_oneself (version_sent (config log)) w (own log) c) put) (waits-log log)
+
+-- so is what a leave puts
+place_left : (log : GroupLog) (p : Claim) → put_of_leave (own log) ≡ Some p → row_at name_cmp queued_name p.name (queue_rows log) ≡ None → length (queue_rows log) < 256
+unfolding queue_rows
+place_left log p put missing =
+    let names : put_key name_cmp p.name (known log) ≡ known log =
+    ap (λ n. put_key name_cmp n (known log)) (leave_name log p put) ∙ put-there names_order (me log) (known log) (rises-known log) (own_known log) in
+    rows_room names_order queued_name (queued log) p.name 256 (known log) (rises-known log) (queued_keyed log)
+    (subst (λ ns. length ns ≤ 256) (sym names) (length-known log)) missing
 
 -- a claim that is taken has a seat for the suspicion of its member
 seat_at : (c : Claim) (log : GroupLog) → c.name ≢ me log → takes (table log) c ≡ true → row_at name_cmp suspected_name c.name (suspicions log) ≡ None → length (suspicions log) < 255
@@ -90,3 +100,8 @@ other_place origin c s r other =
 
 pub other_seat : (c : Claim) (s : GroupState) → IsGroupReached s → c.name ≢ s.own.name → takes s.members.table c ≡ true → HasSeat suspected_name c.name s.suspicions
 other_seat c s r other = (reached_room Group c s r).seat (λ e. other (e ∙ sym (reached-ordered s r).one_name))
+
+pub leave_place : (s : GroupState) → IsGroupReached s → HasPlace (put_of_leave s.own) s.queue
+leave_place s r =
+    subst (λ (t : GroupState). HasPlace (put_of_leave t.own) t.queue) (sym r.is)
+    (has_place (put_of_leave (own r.log)) r.log (place_left r.log))

@@ -20,7 +20,7 @@ use Rattle.lg_timing.specs.declared.config.Config.{Config}
 use Rattle.lg_suspicion.specs.Meaning.Accusers.{SuspicionValue, accuser_counts, accused}
 use Rattle.lg_gossip.specs.Meaning.Queue.{is_suspect}
 use Rattle.lg_membership.specs.declared.origin.Origin.{Origin}
-use Rattle.lg_membership.specs.Meaning.Log.{GroupLog, Opened, Said, Sent, config, me, said, table, live}
+use Rattle.lg_membership.specs.Meaning.Log.{GroupLog, Opened, Said, Sent, Departed, config, me, said, table, live}
 use Rattle.lg_membership.specs.Meaning.Suspicions.{SuspectedValue, suspected, suspicions, suspected_name, accuses}
 use Rattle.lg_membership.specs.Support.Changes.{Change, Nothing, Putting, ended, accusing, overriding, change_by, change_of, row_about, suspicions_after}
 use Rattle.lg_membership.proofs.QueueLaws.{none_rows}
@@ -32,6 +32,10 @@ use Rattle.lg_membership.proofs.SuspectedLaws.{suspected-alike, suspected-quiet,
 pub suspicions-sent : (taken : List Claim) (log : GroupLog) → suspicions log ≡ suspicions (Sent taken ∷ log)
 unfolding suspicions
 suspicions-sent taken log = sym (rows_equal (suspected log) (suspected (Sent taken ∷ log)) (roster (me log) (said log)) (λ m. suspected-alike log (Sent taken ∷ log) m refl refl (λ i. refl)))
+
+pub suspicions-left : (log : GroupLog) → suspicions log ≡ suspicions (Departed ∷ log)
+unfolding suspicions
+suspicions-left log = sym (rows_equal (suspected log) (suspected (Departed ∷ log)) (roster (me log) (said log)) (λ m. suspected-alike log (Departed ∷ log) m refl refl (λ i. refl)))
 
 pub suspicions-opened : (opening : Config) (log : GroupLog) → suspicions (Opened opening ∷ log) ≡ []
 unfolding suspicions

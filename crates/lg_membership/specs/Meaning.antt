@@ -6,4 +6,5 @@ pub mod Applied
 pub mod Pages
 pub mod Examples
 pub mod NewsExamples
+pub mod LeaveExamples
 pub mod PageExamples

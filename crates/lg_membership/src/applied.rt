@@ -22,7 +22,7 @@ pub enum Presence {
     Stays,
     /// It is among them from now on, and wasn't before.
     Joins,
-    /// It was among them, and no longer is: it failed.
+    /// It was among them, and no longer is: it failed or left.
     Leaves,
 }
 

@@ -5,12 +5,13 @@
 ghost use Rattle.std.specs.Prelude.{◌≡◌, ◌≢◌, [], ◌∷◌, ◌&&◌, ◌||◌};
 ghost use Rattle.lg_rules.specs.Meaning.Rows.{name_cmp, is_same};
 ghost use Rattle.lg_timing.specs.Meaning.Config.{IsChecked};
-ghost use Rattle.lg_membership.specs.Meaning.Log.{GroupFact, GroupLog, Opened, Said, Sent};
+ghost use Rattle.lg_membership.specs.Meaning.Log.{GroupFact, GroupLog, Opened, Said, Sent, Departed};
 ghost use Rattle.lg_membership.specs.Meaning.Gossip.{put_if, taken, fill};
 ghost use Rattle.lg_membership.specs.Meaning.Suspicions.{is_accusation};
-ghost use Rattle.lg_membership.specs.Meaning.Applied.{IsApplied};
+ghost use Rattle.lg_membership.specs.Meaning.Applied.{IsApplied, IsLeave};
 ghost use Rattle.lg_membership.specs.Support.State.{group_state_of, open_group, apply_to_group, apply_own, apply_other};
 ghost use Rattle.lg_membership.specs.Support.State.{applied, applied_own, applied_other, if_open, taken_if};
+ghost use Rattle.lg_membership.specs.Support.State.{leave_group, changed_by_leave};
 ghost use Rattle.lg_membership.specs.Support.State.{send_from_group, queue_with, taken_in, fill_in};
 ghost use Rattle.lg_membership.specs.Support.Changes.{is_override, stands, presence_by};
 ghost use Rattle.lg_membership.specs.Support.Room.{HasPlace};
@@ -23,7 +24,7 @@ use arrayvec::ArrayVec;
 use lg_gossip::Queue;
 use lg_rules::{Addr, Claim, Heard, MAX_CLAIMS, Members, Name, Own, Record, Version};
 use lg_timing::{Config, Moment};
-use oneself::{is_refuted, own_arrival, put_if_answered, put_of_own};
+use oneself::{is_refuted, own_arrival, put_if_answered, put_if_leaves, put_of_own};
 use std::cmp::Ordering;
 use std::marker::Model;
 
@@ -37,8 +38,8 @@ pub use lg_rules::MAX_MEMBERS;
 /// their suspicions, and the queue of claims to be sent.
 ///
 /// It is made blank, then opened, and then applies one claim after another. No call allocates memory. A contract sees
-/// it as plain data, which is a function of its log: what it was opened with, which claims were said and when, and
-/// which packets were sent.
+/// it as plain data, which is a function of its log: what it was opened with, which claims were said and when, which
+/// packets were sent, and when the member left.
 #[derive(Debug, Drop)]
 pub struct Membership {
     config: Option<Config>,
@@ -266,6 +267,28 @@ impl Membership {
             deadline,
             presence,
         }
+    }
+
+    /// This member leaves its group, for good (this project's choice). Its own record becomes Left at its incarnation,
+    /// and is queued. Returns that record. A further call does nothing, and returns `None`. Before the opening nobody
+    /// has a record, and `None` is returned too. Allocates no memory.
+    ///
+    /// From then on a claim about this member does nothing, unless its incarnation is greater than this member's: then
+    /// the own record becomes Left at the claim's incarnation, and is queued. This member still counts as one that isn't
+    /// gone.
+    pub fn leave(&mut self) -> Option<Record>
+        ensures state { self.new ≡ leave_group self.old }
+        ensures changed { result ≡ changed_by_leave self.old }
+        // Whatever happened before, the leave is added to the log.
+        ensures log { (log : GroupLog) → self.old ≡ group_state_of log
+            → self.new ≡ group_state_of (Departed ∷ log) }
+        // The result says what the leave changes of this member's own record.
+        ensures meaning { (log : GroupLog) → self.old ≡ group_state_of log → IsLeave log result }
+    {
+        let has_left = self.own.has_left();
+        self.own.leave();
+        put(&mut self.queue, put_if_leaves(has_left, &self.own));
+        if_open(&self.config, put_if_leaves(has_left, &self.own))
     }
 
     /// Replaces what `claims` holds by the claims of the next packet, at most six, or twelve in version 3: those of the

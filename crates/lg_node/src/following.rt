@@ -34,7 +34,7 @@ impl<R: Wait + rt::Clock> News for LoopNews<'_, R> {
     }
 }
 
-/// Watches with a pass until the stop flag is set, or the writer fails, if the node is followed. Otherwise it does
+/// Watches with a pass until the loops are over, or the writer fails, if the node is followed. Otherwise it does
 /// nothing. A writer that fails ends the watcher alone. Gives both back, with how the watcher ended.
 pub(crate) fn watch_if<'p, 'w, A, R, C, W>(
     shared: &Shared<'_, R, C>,
@@ -64,7 +64,7 @@ where
         shared.alloc,
         shared.clock,
         &news,
-        shared.stop,
+        shared.over,
         &mut pass,
         writer,
     );

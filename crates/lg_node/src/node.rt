@@ -104,11 +104,18 @@ pub enum NodeFault {
 /// Runs a node over UDP until a moment, in milliseconds from its start, until somebody sets the stop flag, or until one
 /// of its loops ends before that.
 ///
-/// It binds a socket to the configured address, opens an agent with four passes, and asks each seed for its table,
-/// in order. Then it runs [`join_threads`](crate::join_threads) with the steady clock
+/// It binds a socket to the configured address, opens an agent with four passes, and asks each seed for its table, in
+/// order. Then it runs [`join_threads`](crate::join_threads) with the steady clock
 /// ([`SteadyClock`](lg_clock::SteadyClock)), the words of [`PcgDice`](crate::PcgDice), and loops that are endless. So
-/// the ticking loop asks the seeds until a Page is heard, and again while it is alone. It asks a member every
-/// `pull_ms`. At the end the members are read, and the agent is closed. A node that hears of no member goes on alone.
+/// the ticking loop asks the seeds until a Page is heard, and again while it is alone. It asks a seed and a member in
+/// turn, soon at first and then every `pull_ms`. At the end the members are read, and the agent is closed. A node that
+/// hears of no member goes on alone.
+///
+/// If the configuration's `wire` is 3, this member leaves its group when the ticking loop is told to stop, or its end
+/// time comes (this project's choice): it tells at most eight members at once, and [`NodeEnd::members`] has its own
+/// record as left. Both loops go on for one interval then. The loop is told to stop by the stop flag, which the
+/// receiving loop sets too if it ends by itself. A node with another `wire` tells nobody that it ends: versions 1 and 2
+/// can't spell it.
 ///
 /// If the node is followed, the pass that has asked the seeds watches beside the loops ([`lg_follow::watch`]), in a
 /// thread of its own, and [`NodeEnd::watched`] says how that ended. A writer that fails ends the watcher alone. If the
@@ -124,8 +131,8 @@ pub enum NodeFault {
 ///
 /// A full history ends nothing, whether a seed is asked or a loop runs: it is rotated, and the node goes on with a
 /// summary in place of its entries. So it never has more than the configuration's `history_limit`. What ends a loop
-/// is described at [`receive_loop`](crate::receive_loop) and [`tick_loop`](crate::tick_loop). A loop that ends sets the
-/// stop flag.
+/// is described at [`receive_loop`](crate::receive_loop) and [`tick_loop`](crate::tick_loop). If one ends, so does the
+/// other.
 ///
 /// The configuration has to be checked. The error says why there were no loops: [`NodeFault::Socket`],
 /// [`NodeFault::Status`], [`NodeFault::Clock`], or [`NodeFault::Refused`] if memory was refused or there was no reader

@@ -93,12 +93,14 @@ where
         Err(refusal) => return Err(NodeFault::Refused(refusal)),
     };
     let counters = Counters::new(setup.config.name, start);
-    let (page_heard, changes) = (AtomicBool::new(false), ChangeSignal::new());
+    let (over, page_heard) = (AtomicBool::new(false), AtomicBool::new(false));
+    let changes = ChangeSignal::new();
     let shared = Shared {
         rt,
         alloc: setup.alloc,
         clock: &clock,
         stop: setup.stop,
+        over: &over,
         page_heard: &page_heard,
         counters: &counters,
         changes: &changes,

@@ -3,24 +3,28 @@
 //! ```text
 //! thread           begins                     ends                                     joined by
 //! ticking loop     it is the caller's own     at its time, the stop flag or a fault
-//! watcher          first, if it follows       at the stop flag or its writer's fault   ticking loop
+//! watcher          first, if it follows       when the loops have ended, or at its     ticking loop
+//!                                             writer's fault
 //! status server    then, if there is one      when the loops have ended, or it failed  ticking loop
-//! receiving loop   behind these               at the stop flag or a fault              ticking loop
+//! receiving loop   behind these               at the ticking loop's end or a fault     ticking loop
 //! ```
 //!
 //! All are of one scope: [`threads_in`] starts and joins them. What a thread does is told in one place: `Watching`
 //! (`following.rt`), `Serving` (`serving.rt`), [`receive_loop`] and [`tick_loop`]. The program has two more threads,
 //! which nobody joins. One writes what a followed node tells (`lg_cli/src/output.rt`), and one reads the input whose
-//! end is to end the node (`lg_cli/src/node.rt`). A loop that ends sets the stop flag, at which the other loop ends.
-//! When both have ended, the watcher is woken, which sees the flag, and the server is told to stop.
+//! end is to end the node (`lg_cli/src/node.rt`). The receiving loop sets the stop flag when it ends, at which the
+//! ticking one ends, and this one sets the flag that it is over, at which the receiving one ends. So a member that
+//! leaves is still heard and answered while its ticking loop lingers. When both have ended, the watcher is woken, which
+//! sees that it is over, and the server is told to stop.
 //!
-//! Defined in: `specs/Meaning/Nodes.antt`, `lg_loops/specs/Meaning/Turns.antt`, `lg_loops/specs/Meaning/Pulling.antt`.
+//! Defined in: `specs/Meaning/Nodes.antt`, `lg_loops/specs/Meaning/Turns.antt`, `lg_loops/specs/Meaning/Pulling.antt`,
+//! `lg_loops/specs/Meaning/BothLoops.antt`.
 //! Tested in: `lg_node_tests/src/node/both.rt`, `refused_memory.rt`, `cases/nodes`, `cases/groups`, `cases/status`.
 ghost use Rattle.std.specs.Prelude.{◌≡◌, ◌≤◌, false, is_some, IfSome};
 ghost use Rattle.lg_http.specs.Meaning.Slots.{AreFree, slots_of};
 ghost use Rattle.lg_node.specs.Meaning.Nodes.{ServesIf, TellsServed, WatchesIf};
-ghost use Rattle.lg_loops.specs.Meaning.Pulling.{Ticking};
-ghost use Rattle.lg_loops.specs.Meaning.Turns.{line, receives, Lasted, Receiving};
+ghost use Rattle.lg_loops.specs.Meaning.BothLoops.{BothRan};
+ghost use Rattle.lg_loops.specs.Meaning.Turns.{line, receives, Lasted};
 ghost use Rattle.lg_loops.specs.Meaning.Words.{DrawsEight};
 
 use crate::following::Watching;
@@ -167,11 +171,9 @@ where
         × (line (L.log sides.receiver.link) (L.failed sides.receiver.link) ≡ S.line) }
     requires watches { V.needs watching }
     requires serves { X.needs serving }
-    ensures received { Receiving S.wait L.tells S.bound S.endless S.line
+    ensures ran { BothRan S.wait DrawsEight sides.entry.dice sides.entry.plan L.tells S.bound S.endless S.line
         (line (L.log result.0.0.link) (L.failed result.0.0.link)) S.own result.0.0.spent result.0.0.end
-        result.0.1.end }
-    ensures ticked { Ticking DrawsEight sides.entry.dice sides.entry.plan L.tells shared.now.bound
-        shared.now.endless (line (L.log sides.entry.ticker.link) (L.failed sides.entry.ticker.link))
+        (line (L.log sides.entry.ticker.link) (L.failed sides.entry.ticker.link))
         (line (L.log result.0.1.link) (L.failed result.0.1.link)) sides.entry.ticker.pass
         result.0.1.spent result.0.1.end }
     ensures watched { V.gives watching result.1.0 }
@@ -187,11 +189,9 @@ where
             requires start { (receiver.pass ≡ S.own) × (line (L.log receiver.link) (L.failed receiver.link) ≡ S.line) }
             requires watches { V.needs watching }
             requires serves { X.needs serving }
-            ensures received { Receiving S.wait L.tells S.bound S.endless S.line
+            ensures ran { BothRan S.wait DrawsEight dice plan L.tells S.bound S.endless S.line
                 (line (L.log result.0.0.link) (L.failed result.0.0.link)) S.own result.0.0.spent result.0.0.end
-                result.0.1.end }
-            ensures ticked { Ticking DrawsEight dice plan L.tells shared.entry.now.bound
-                shared.entry.now.endless (line (L.log ticker.entry.link) (L.failed ticker.entry.link))
+                (line (L.log ticker.entry.link) (L.failed ticker.entry.link))
                 (line (L.log result.0.1.link) (L.failed result.0.1.link)) ticker.entry.pass
                 result.0.1.spent result.0.1.end }
             ensures watched { V.gives watching result.1.0 }
@@ -227,11 +227,11 @@ where
             );
             let both = match receiving {
                 Ok(child) => {
-                    let ticked = tick_loop(shared, ticker, dice, &plan);
+                    let ticked = tick_loop(shared, ticker, dice, plan);
                     (child.join(shared.rt), ticked)
                 }
                 Err(refused) => {
-                    shared.stop.store(true, SeqCst);
+                    shared.over.store(true, SeqCst);
                     (without_thread((refused.value)()), ticker.unstarted())
                 }
             };
@@ -278,12 +278,11 @@ where
         (W.contents follower.entry.writer.now) (W.contents result.1.0.1.0.now) result.1.0.1.1 }
     ensures alone { follower.entry.followed ≡ false → result.1.0.1.0.now ≡ follower.entry.writer.now }
     ensures served { X.gives serving result.1.1 }
-    ensures received { Receiving shared.now.wait_ms L.tells shared.now.bound shared.now.endless
-        (line (L.log sides.entry.receiver.link) (L.failed sides.entry.receiver.link))
+    ensures ran { BothRan shared.now.wait_ms DrawsEight sides.entry.dice sides.entry.plan L.tells shared.now.bound
+        shared.now.endless (line (L.log sides.entry.receiver.link) (L.failed sides.entry.receiver.link))
         (line (L.log result.0.0.link) (L.failed result.0.0.link)) sides.entry.receiver.pass
-        result.0.0.spent result.0.0.end result.0.1.end }
-    ensures ticked { Ticking DrawsEight sides.entry.dice sides.entry.plan L.tells shared.now.bound
-        shared.now.endless (line (L.log sides.entry.ticker.link) (L.failed sides.entry.ticker.link))
+        result.0.0.spent result.0.0.end
+        (line (L.log sides.entry.ticker.link) (L.failed sides.entry.ticker.link))
         (line (L.log result.0.1.link) (L.failed result.0.1.link)) sides.entry.ticker.pass
         result.0.1.spent result.0.1.end }
 {
@@ -301,10 +300,11 @@ where
 /// writer what the node learns, in a thread of its own, until the loops end. If there is a status server, it serves in
 /// a thread of its own, until the loops have ended. One that ends by itself is reported on `faults` when it ends.
 ///
-/// If no thread can be started for the receiving loop, the stop flag is set before either loop begins. The receiving
-/// loop then ends with [`Why::Refused`](crate::Why::Refused), since memory was refused. The ticking one makes no turn
-/// and ends with [`Why::Stopped`](crate::Why::Stopped). If none can be started for the watcher, it watches when the
-/// loops have ended. A status server for which none can be started is told to stop before it begins.
+/// If no thread can be started for the receiving loop, the flag that it is over is set before either loop begins. The
+/// receiving loop then ends with [`Why::Refused`](crate::Why::Refused), since memory was refused. The ticking one makes
+/// no turn and ends with [`Why::Stopped`](crate::Why::Stopped), and this member doesn't leave its group. If none can be
+/// started for the watcher, it watches when the loops have ended. A status server for which none can be started is told
+/// to stop before it begins.
 ///
 /// Gives back what those left who only looked, both ends of the loops, and the writer and the stream.
 pub fn join_threads<'l, 'p, 'w, 'f, A, R, L, C, W, F>(
@@ -332,12 +332,11 @@ where
     ensures served { ServesIf (is_some lookers.entry.server) lookers.entry.config.now lookers.entry.settings.now
         lookers.entry.status result.0.status result.0.served }
     ensures told { TellsServed result.0.served (F.reported faults.entry.now) (F.reported result.1.1.1.now) }
-    ensures received { Receiving shared.now.wait_ms L.tells shared.now.bound shared.now.endless
-        (line (L.log sides.entry.receiver.link) (L.failed sides.entry.receiver.link))
+    ensures ran { BothRan shared.now.wait_ms DrawsEight sides.entry.dice sides.entry.plan L.tells shared.now.bound
+        shared.now.endless (line (L.log sides.entry.receiver.link) (L.failed sides.entry.receiver.link))
         (line (L.log result.1.0.0.link) (L.failed result.1.0.0.link)) sides.entry.receiver.pass
-        result.1.0.0.spent result.1.0.0.end result.1.0.1.end }
-    ensures ticked { Ticking DrawsEight sides.entry.dice sides.entry.plan L.tells shared.now.bound
-        shared.now.endless (line (L.log sides.entry.ticker.link) (L.failed sides.entry.ticker.link))
+        result.1.0.0.spent result.1.0.0.end
+        (line (L.log sides.entry.ticker.link) (L.failed sides.entry.ticker.link))
         (line (L.log result.1.0.1.link) (L.failed result.1.0.1.link)) sides.entry.ticker.pass
         result.1.0.1.spent result.1.0.1.end }
 {

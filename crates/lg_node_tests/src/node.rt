@@ -7,6 +7,7 @@ mod clocks;
 mod dice;
 mod finding;
 mod keyed;
+mod leaving;
 mod links;
 mod loops;
 mod machine;

@@ -11,6 +11,7 @@ use Rattle.lg_rules.specs.declared.claim.Status.{Status}
 use Rattle.lg_rules.specs.declared.claim.Status.TheVariants.{Alive, Suspect, Failed, Left}
 use Rattle.lg_rules.specs.Meaning.Beats.{beats_of}
 use Rattle.lg_rules.specs.Meaning.Claim.{name_of}
+use Rattle.lg_rules.specs.Meaning.Own.{OwnFact, Told}
 use Rattle.lg_rules.specs.Meaning.Rows.{name_cmp, is_same, row_at}
 use Rattle.lg_rules.specs.Meaning.View.{is_same_status, is_same_ip, is_same_addr, is_same_claim, is_row, changed}
 use Rattle.lg_rules.specs.Support.Standing.{Standing, standing_of, standing_view, hear_claim, standing_after}
@@ -24,24 +25,24 @@ use Rattle.lg_rules.proofs.RowsFound.{filter_same, rows_found, few_among}
 use Rattle.lg_rules.proofs.Views.{view_after, hear_claim-standing, rises-view, Follows, IsChange, Changes, Leaves, view_hearing}
 
 -- the past once these are heard, the first first
-abbrev pub after_claims : List Claim → List Claim → List Claim
+abbrev pub after_claims : List OwnFact → List Claim → List OwnFact
 after_claims past [] = past
-after_claims past (c ∷ cs) = after_claims (c ∷ past) cs
+after_claims past (c ∷ cs) = after_claims (Told c ∷ past) cs
 
-pub hear_claims-standing : (name : List ℕ) (addr : Addr) (past cs : List Claim) → standing_after (standing_of name addr past) cs ≡ standing_of name addr (after_claims past cs)
+pub hear_claims-standing : (name : List ℕ) (addr : Addr) (past : List OwnFact) (cs : List Claim) → standing_after (standing_of name addr past) cs ≡ standing_of name addr (after_claims past cs)
 hear_claims-standing name addr past [] = refl
-hear_claims-standing name addr past (c ∷ cs) = ap (λ m. standing_after m cs) (hear_claim-standing name addr past c) ∙ hear_claims-standing name addr (c ∷ past) cs
+hear_claims-standing name addr past (c ∷ cs) = ap (λ m. standing_after m cs) (hear_claim-standing name addr past c) ∙ hear_claims-standing name addr (Told c ∷ past) cs
 
 -- the names whose records claims change after a past
-abbrev pub names_after : List ℕ → Addr → List Claim → List Claim → List (List ℕ)
+abbrev pub names_after : List ℕ → Addr → List OwnFact → List Claim → List (List ℕ)
 names_after name addr past cs = changed_names (standing_of name addr past) cs
 
-names_more : (name : List ℕ) (addr : Addr) (past : List Claim) (c : Claim) (cs : List Claim) → changes_record (standing_of name addr past) c ≡ true → names_after name addr past (c ∷ cs) ≡ c.name ∷ names_after name addr (c ∷ past) cs
+names_more : (name : List ℕ) (addr : Addr) (past : List OwnFact) (c : Claim) (cs : List Claim) → changes_record (standing_of name addr past) c ≡ true → names_after name addr past (c ∷ cs) ≡ c.name ∷ names_after name addr (Told c ∷ past) cs
 names_more name addr past c cs t =
     ap (λ b. cond b (c.name ∷ changed_names (hear_claim (standing_of name addr past) c) cs) (changed_names (hear_claim (standing_of name addr past) c) cs)) t
     ∙ ap (λ m. c.name ∷ changed_names m cs) (hear_claim-standing name addr past c)
 
-names_none : (name : List ℕ) (addr : Addr) (past : List Claim) (c : Claim) (cs : List Claim) → changes_record (standing_of name addr past) c ≡ false → names_after name addr past (c ∷ cs) ≡ names_after name addr (c ∷ past) cs
+names_none : (name : List ℕ) (addr : Addr) (past : List OwnFact) (c : Claim) (cs : List Claim) → changes_record (standing_of name addr past) c ≡ false → names_after name addr past (c ∷ cs) ≡ names_after name addr (Told c ∷ past) cs
 names_none name addr past c cs f =
     ap (λ b. cond b (c.name ∷ changed_names (hear_claim (standing_of name addr past) c) cs) (changed_names (hear_claim (standing_of name addr past) c) cs)) f
     ∙ ap (λ m. changed_names m cs) (hear_claim-standing name addr past c)
@@ -58,43 +59,43 @@ follows_through r c None p h = tt
 follows_through r c (Some b) p h = beats_through r c b p h
 
 -- A record of a name overrides the one before where its claims changed it, and else is the one before.
-record Traced (name : List ℕ) (addr : Addr) (past cs : List Claim) (m : List ℕ) (r : Claim) : Type 0 where
+record Traced (name : List ℕ) (addr : Addr) (past : List OwnFact) (cs : List Claim) (m : List ℕ) (r : Claim) : Type 0 where
   hit : is_known m (names_after name addr past cs) ≡ true → Follows r (row_at name_cmp name_of m (view_after name addr past))
   missed : is_known m (names_after name addr past cs) ≡ false → row_at name_cmp name_of m (view_after name addr past) ≡ Some r
 
-traced_hit : (name : List ℕ) (addr : Addr) (past : List Claim) (c : Claim) (cs : List Claim) (r : Claim) → IsChange name addr c past → Traced name addr (c ∷ past) cs c.name r → Traced name addr past (c ∷ cs) c.name r
+traced_hit : (name : List ℕ) (addr : Addr) (past : List OwnFact) (c : Claim) (cs : List Claim) (r : Claim) → IsChange name addr c past → Traced name addr (Told c ∷ past) cs c.name r → Traced name addr past (c ∷ cs) c.name r
 traced_hit name addr past c cs r n rest =
     let more = names_more name addr past c cs n.changes in
     record {
-      hit = λ h. elim (cases_Bool (is_known c.name (names_after name addr (c ∷ past) cs))) [
+      hit = λ h. elim (cases_Bool (is_known c.name (names_after name addr (Told c ∷ past) cs))) [
         | inl a ↦ follows_through r n.r (row_at name_cmp name_of c.name (view_after name addr past)) (subst (Follows r) n.row (rest.hit a)) n.follows
         | inr b ↦ subst (λ x. Follows x (row_at name_cmp name_of c.name (view_after name addr past))) (held_once n.r r (sym n.row ∙ rest.missed b)) n.follows
       ];
-      missed = λ h. absurd (false≢true (sym h ∙ ap (is_known c.name) more ∙ among-cons_same names_order c.name c.name (names_after name addr (c ∷ past) cs) refl));
+      missed = λ h. absurd (false≢true (sym h ∙ ap (is_known c.name) more ∙ among-cons_same names_order c.name c.name (names_after name addr (Told c ∷ past) cs) refl));
     }
 
-traced_other : (name : List ℕ) (addr : Addr) (past : List Claim) (c : Claim) (cs : List Claim) (m : List ℕ) (r : Claim) → IsChange name addr c past → c.name ≢ m → Traced name addr (c ∷ past) cs m r → Traced name addr past (c ∷ cs) m r
+traced_other : (name : List ℕ) (addr : Addr) (past : List OwnFact) (c : Claim) (cs : List Claim) (m : List ℕ) (r : Claim) → IsChange name addr c past → c.name ≢ m → Traced name addr (Told c ∷ past) cs m r → Traced name addr past (c ∷ cs) m r
 traced_other name addr past c cs m r n d rest =
     let row = n.others m d in
-    let among : is_known m (names_after name addr past (c ∷ cs)) ≡ is_known m (names_after name addr (c ∷ past) cs) = ap (is_known m) (names_more name addr past c cs n.changes) ∙ among-cons_other names_order m c.name (names_after name addr (c ∷ past) cs) d in
+    let among : is_known m (names_after name addr past (c ∷ cs)) ≡ is_known m (names_after name addr (Told c ∷ past) cs) = ap (is_known m) (names_more name addr past c cs n.changes) ∙ among-cons_other names_order m c.name (names_after name addr (Told c ∷ past) cs) d in
     record {
       hit = λ h. subst (Follows r) row (rest.hit (sym among ∙ h));
       missed = λ h. sym row ∙ rest.missed (sym among ∙ h);
     }
 
-traced : (name : List ℕ) (addr : Addr) (past cs : List Claim) (m : List ℕ) (r : Claim) → row_at name_cmp name_of m (view_after name addr (after_claims past cs)) ≡ Some r → Traced name addr past cs m r
+traced : (name : List ℕ) (addr : Addr) (past : List OwnFact) (cs : List Claim) (m : List ℕ) (r : Claim) → row_at name_cmp name_of m (view_after name addr (after_claims past cs)) ≡ Some r → Traced name addr past cs m r
 traced name addr past [] m r e = record { hit = λ h. absurd (false≢true h); missed = λ h. e }
 traced name addr past (c ∷ cs) m r e =
-    let rest : Traced name addr (c ∷ past) cs m r = traced name addr (c ∷ past) cs m r e in
+    let rest : Traced name addr (Told c ∷ past) cs m r = traced name addr (Told c ∷ past) cs m r e in
     elim (view_hearing name addr c past) [
       | Leaves f same ↦ (
-          let names : names_after name addr past (c ∷ cs) ≡ names_after name addr (c ∷ past) cs = names_none name addr past c cs f in
+          let names : names_after name addr past (c ∷ cs) ≡ names_after name addr (Told c ∷ past) cs = names_none name addr past c cs f in
           record {
             hit = λ h. subst (λ v. Follows r (row_at name_cmp name_of m v)) same (rest.hit (sym (ap (is_known m) names) ∙ h));
             missed = λ h. sym (ap (row_at name_cmp name_of m) same) ∙ rest.missed (sym (ap (is_known m) names) ∙ h);
           })
       | Changes n ↦ elim (cases_key names_order c.name m) [
-        | inl is ↦ subst (λ k. Traced name addr past (c ∷ cs) k r) is (traced_hit name addr past c cs r n (subst (λ k. Traced name addr (c ∷ past) cs k r) (sym is) rest))
+        | inl is ↦ subst (λ k. Traced name addr past (c ∷ cs) k r) is (traced_hit name addr past c cs r n (subst (λ k. Traced name addr (Told c ∷ past) cs k r) (sym is) rest))
         | inr d ↦ traced_other name addr past c cs m r n d rest
       ]
     ]
@@ -149,7 +150,7 @@ fresh r (Some b) h = elim (cases_Bool (is_same_claim b r)) [
 ]
 
 -- a record of the view differs exactly where claims changed it
-differs : (name : List ℕ) (addr : Addr) (past cs : List Claim) (r : Claim) → row_at name_cmp name_of r.name (view_after name addr (after_claims past cs)) ≡ Some r
+differs : (name : List ℕ) (addr : Addr) (past : List OwnFact) (cs : List Claim) (r : Claim) → row_at name_cmp name_of r.name (view_after name addr (after_claims past cs)) ≡ Some r
     → not (is_row r (row_at name_cmp name_of r.name (view_after name addr past))) ≡ is_known r.name (names_after name addr past cs)
 differs name addr past cs r e =
     let t = traced name addr past cs r.name r e in
@@ -158,7 +159,7 @@ differs name addr past cs r e =
       | inr b ↦ ap (λ o. not (is_row r o)) (t.missed b) ∙ ap not (claim_itself r) ∙ sym b
     ]
 
-changed-past : (name : List ℕ) (addr : Addr) (past cs : List Claim)
+changed-past : (name : List ℕ) (addr : Addr) (past : List OwnFact) (cs : List Claim)
     → changed (view_after name addr past) (view_after name addr (after_claims past cs)) ≡ filter (λ r. is_known r.name (names_after name addr past cs)) (view_after name addr (after_claims past cs))
 changed-past name addr past cs =
     let rows : List Claim = view_after name addr (after_claims past cs) in
@@ -173,14 +174,14 @@ length-changed_names m (c ∷ cs) = elim (cases_Bool (changes_record m c)) [
 ]
 
 -- Once claims are heard after a past, the records that differ are those of the names that they changed,
-pub changed-heard : (name : List ℕ) (addr : Addr) (past cs : List Claim) (m : Standing) → m ≡ standing_of name addr past
+pub changed-heard : (name : List ℕ) (addr : Addr) (past : List OwnFact) (cs : List Claim) (m : Standing) → m ≡ standing_of name addr past
     → changed (standing_view m) (standing_view (standing_after m cs)) ≡ filter (λ r. is_known r.name (changed_names m cs)) (standing_view (standing_after m cs))
 changed-heard name addr past cs m is =
     subst (λ (k : Standing). changed (standing_view k) (standing_view (standing_after k cs)) ≡ filter (λ r. is_known r.name (changed_names k cs)) (standing_view (standing_after k cs))) (sym is)
     (subst (λ (k : Standing). changed (view_after name addr past) (standing_view k) ≡ filter (λ r. is_known r.name (names_after name addr past cs)) (standing_view k)) (sym (hear_claims-standing name addr past cs)) (changed-past name addr past cs))
 
 -- and they are no more than the claims.
-pub length-changed_records : (name : List ℕ) (addr : Addr) (past cs : List Claim) (m : Standing) → m ≡ standing_of name addr past
+pub length-changed_records : (name : List ℕ) (addr : Addr) (past : List OwnFact) (cs : List Claim) (m : Standing) → m ≡ standing_of name addr past
     → length (filter (λ r. is_known r.name (changed_names m cs)) (standing_view (standing_after m cs))) ≤ length cs
 length-changed_records name addr past cs m is =
     let few = subst (λ (k : Standing). length (filter (λ r. is_known r.name (changed_names m cs)) (standing_view k)) ≤ length (changed_names m cs))
@@ -188,5 +189,5 @@ length-changed_records name addr past cs m is =
     (few_among names_order name_of (changed_names m cs) (view_after name addr (after_claims past cs)) (rises-view name addr (after_claims past cs))) in
     omega (arith, few, length-changed_names m cs)
 
-pub length-changed : (name : List ℕ) (addr : Addr) (past cs : List Claim) (m : Standing) → m ≡ standing_of name addr past → length (changed (standing_view m) (standing_view (standing_after m cs))) ≤ length cs
+pub length-changed : (name : List ℕ) (addr : Addr) (past : List OwnFact) (cs : List Claim) (m : Standing) → m ≡ standing_of name addr past → length (changed (standing_view m) (standing_view (standing_after m cs))) ≤ length cs
 length-changed name addr past cs m is = subst (λ xs. length xs ≤ length cs) (sym (changed-heard name addr past cs m is)) (length-changed_records name addr past cs m is)

@@ -10,15 +10,15 @@ use Rattle.lg_rules.specs.declared.own.OwnHeard.{OwnHeard}
 use Rattle.lg_rules.specs.declared.own.OwnHeard.TheVariants.{Refuted, Raised, Ousted, Ignored}
 use Rattle.lg_rules.specs.Meaning.Beats.{beats_of}
 use Rattle.lg_rules.specs.Meaning.Claim.{name_of}
-use Rattle.lg_rules.specs.Meaning.Own.{OwnValue, beyond, own_hearing, own_hearing_at, oneself_changed, own_heard, own_of}
-use Rattle.lg_rules.specs.Meaning.Own.{own_record}
+use Rattle.lg_rules.specs.Meaning.Own.{OwnValue, OwnFact, Told, beyond, own_hearing, own_hearing_at, left_hearing_at}
+use Rattle.lg_rules.specs.Meaning.Own.{oneself_hearing, oneself_changed, own_heard, own_of, claims_told, own_record}
 use Rattle.lg_rules.specs.Meaning.Rows.{name_cmp, is_same, put_row, row_at, Rises}
 use Rattle.lg_rules.specs.Meaning.Table.{record_of, roster, table_of, takes, heard}
 use Rattle.lg_rules.specs.Meaning.View.{view_of}
 use Rattle.lg_rules.specs.Support.Standing.{Standing, standing_of, standing_view, hear_claim, is_rise, changes_record}
 use Rattle.lg_rules.proofs.Cases.{Missing, Holding, held}
 use Rattle.lg_rules.proofs.KeyOrder.{names_order, same_key, other_key, cases_key}
-use Rattle.lg_rules.proofs.OwnLaws.{own-same, own-other, own_of_name, own_hearing-same, own_hearing-other}
+use Rattle.lg_rules.proofs.OwnLaws.{own-same, own-other, own_of_name, own_hearing-same, own_hearing-other, oneself_hearing-here, oneself_hearing-gone, raised_here, raised_gone}
 use Rattle.lg_rules.proofs.Ranks.{greater_overrides}
 use Rattle.lg_rules.proofs.Roster.{is_known, rises-roster}
 use Rattle.lg_rules.proofs.RowLaws.{row_at-put, rises-rows, length_put_row-le}
@@ -34,12 +34,12 @@ pub hear_claim-other : (m : Standing) (c : Claim) → c.name ≢ m.own.name → 
 unfolding hear_claim
 hear_claim-other m c d = ap (λ b. cond b (record m { own = own_heard m.own c }) (record m { table = heard m.table c })) (other_key names_order c.name m.own.name d)
 
-pub hear_claim-standing : (name : List ℕ) (addr : Addr) (past : List Claim) (c : Claim) → hear_claim (standing_of name addr past) c ≡ standing_of name addr (c ∷ past)
+pub hear_claim-standing : (name : List ℕ) (addr : Addr) (past : List OwnFact) (c : Claim) → hear_claim (standing_of name addr past) c ≡ standing_of name addr (Told c ∷ past)
 hear_claim-standing name addr past c =
     let is = own_of_name name addr past in
     elim (cases_key names_order c.name name) [
-      | inl e ↦ hear_claim-own (standing_of name addr past) c (e ∙ sym is) ∙ (λ i. record { own = sym (own-same name addr c past e) i; table = sym (table-own name c past e) i })
-      | inr d ↦ hear_claim-other (standing_of name addr past) c (λ e. d (e ∙ is)) ∙ (λ i. record { own = sym (own-other name addr c past d) i; table = heard-table name c past d i })
+      | inl e ↦ hear_claim-own (standing_of name addr past) c (e ∙ sym is) ∙ (λ i. record { own = sym (own-same name addr c past e) i; table = sym (table-own name c (claims_told past) e) i })
+      | inr d ↦ hear_claim-other (standing_of name addr past) c (λ e. d (e ∙ is)) ∙ (λ i. record { own = sym (own-other name addr c past d) i; table = heard-table name c (claims_told past) d i })
     ]
 
 pub changes_record-own : (m : Standing) (c : Claim) → c.name ≡ m.own.name → changes_record m c ≡ is_rise (own_hearing m.own c)
@@ -51,31 +51,31 @@ unfolding changes_record
 changes_record-other m c d = ap (λ b. cond b (is_rise (own_hearing m.own c)) (takes m.table c)) (other_key names_order c.name m.own.name d)
 
 -- The view after a past: the own record at the own name, and the table elsewhere.
-abbrev pub view_after : List ℕ → Addr → List Claim → List Claim
+abbrev pub view_after : List ℕ → Addr → List OwnFact → List Claim
 view_after name addr past = standing_view (standing_of name addr past)
 
-pub row_at-view : (name : List ℕ) (addr : Addr) (past : List Claim) (m : List ℕ)
-    → row_at name_cmp name_of m (view_after name addr past) ≡ cond (is_same name_cmp name m) (Some (own_record (own_of name addr past))) (row_at name_cmp name_of m (table_of name past))
+pub row_at-view : (name : List ℕ) (addr : Addr) (past : List OwnFact) (m : List ℕ)
+    → row_at name_cmp name_of m (view_after name addr past) ≡ cond (is_same name_cmp name m) (Some (own_record (own_of name addr past))) (row_at name_cmp name_of m (table_of name (claims_told past)))
 row_at-view name addr past m =
     let r : Claim = own_record (own_of name addr past) in
-    row_at-put names_order name_of m r (table_of name past) ∙ ap (λ n. cond (is_same name_cmp n m) (Some r) (row_at name_cmp name_of m (table_of name past))) (own_of_name name addr past)
+    row_at-put names_order name_of m r (table_of name (claims_told past)) ∙ ap (λ n. cond (is_same name_cmp n m) (Some r) (row_at name_cmp name_of m (table_of name (claims_told past)))) (own_of_name name addr past)
 
-pub row_at-own : (name : List ℕ) (addr : Addr) (past : List Claim) (m : List ℕ) → name ≡ m → row_at name_cmp name_of m (view_after name addr past) ≡ Some (own_record (own_of name addr past))
-row_at-own name addr past m e = row_at-view name addr past m ∙ ap (λ b. cond b (Some (own_record (own_of name addr past))) (row_at name_cmp name_of m (table_of name past))) (same_key names_order name m e)
+pub row_at-own : (name : List ℕ) (addr : Addr) (past : List OwnFact) (m : List ℕ) → name ≡ m → row_at name_cmp name_of m (view_after name addr past) ≡ Some (own_record (own_of name addr past))
+row_at-own name addr past m e = row_at-view name addr past m ∙ ap (λ b. cond b (Some (own_record (own_of name addr past))) (row_at name_cmp name_of m (table_of name (claims_told past)))) (same_key names_order name m e)
 
-pub row_at-others : (name : List ℕ) (addr : Addr) (past : List Claim) (m : List ℕ) → name ≢ m → row_at name_cmp name_of m (view_after name addr past) ≡ row_at name_cmp name_of m (table_of name past)
-row_at-others name addr past m d = row_at-view name addr past m ∙ ap (λ b. cond b (Some (own_record (own_of name addr past))) (row_at name_cmp name_of m (table_of name past))) (other_key names_order name m d)
+pub row_at-others : (name : List ℕ) (addr : Addr) (past : List OwnFact) (m : List ℕ) → name ≢ m → row_at name_cmp name_of m (view_after name addr past) ≡ row_at name_cmp name_of m (table_of name (claims_told past))
+row_at-others name addr past m d = row_at-view name addr past m ∙ ap (λ b. cond b (Some (own_record (own_of name addr past))) (row_at name_cmp name_of m (table_of name (claims_told past)))) (other_key names_order name m d)
 
 pub rises-table : (name : List ℕ) (past : List Claim) → Rises name_cmp (map name_of (table_of name past))
 unfolding table_of
 rises-table name past = rises-rows names_order name_of (record_of past) (roster name past) (records_keyed past) (rises-roster name past)
 
-pub rises-view : (name : List ℕ) (addr : Addr) (past : List Claim) → Rises name_cmp (map name_of (view_after name addr past))
-rises-view name addr past = rises-put_row names_order name_of (own_record (own_of name addr past)) (table_of name past) (rises-table name past)
+pub rises-view : (name : List ℕ) (addr : Addr) (past : List OwnFact) → Rises name_cmp (map name_of (view_after name addr past))
+rises-view name addr past = rises-put_row names_order name_of (own_record (own_of name addr past)) (table_of name (claims_told past)) (rises-table name (claims_told past))
 
 -- which is of at most 256 members
-pub length_view-le : (name : List ℕ) (addr : Addr) (past : List Claim) → length (view_after name addr past) ≤ 256
-length_view-le name addr past = omega (arith, length_put_row-le names_order name_of (own_record (own_of name addr past)) (table_of name past), length_table-le name past)
+pub length_view-le : (name : List ℕ) (addr : Addr) (past : List OwnFact) → length (view_after name addr past) ≤ 256
+length_view-le name addr past = omega (arith, length_put_row-le names_order name_of (own_record (own_of name addr past)) (table_of name (claims_told past)), length_table-le name (claims_told past))
 
 -- a record comes after what stood before it, if anything did
 abbrev pub Follows : Claim → Option Claim → Type 0
@@ -83,16 +83,16 @@ Follows r None = ⊤
 Follows r (Some b) = beats_of r b ≡ true
 
 -- What a claim does to the view: it changes the record of its name alone, to one that overrides it, or nothing.
-pub record IsChange (name : List ℕ) (addr : Addr) (c : Claim) (past : List Claim) : Type 0 where
+pub record IsChange (name : List ℕ) (addr : Addr) (c : Claim) (past : List OwnFact) : Type 0 where
   pub changes : changes_record (standing_of name addr past) c ≡ true
   pub r : Claim
-  pub row : row_at name_cmp name_of c.name (view_after name addr (c ∷ past)) ≡ Some r
+  pub row : row_at name_cmp name_of c.name (view_after name addr (Told c ∷ past)) ≡ Some r
   pub follows : Follows r (row_at name_cmp name_of c.name (view_after name addr past))
-  pub others : (m : List ℕ) → c.name ≢ m → row_at name_cmp name_of m (view_after name addr (c ∷ past)) ≡ row_at name_cmp name_of m (view_after name addr past)
+  pub others : (m : List ℕ) → c.name ≢ m → row_at name_cmp name_of m (view_after name addr (Told c ∷ past)) ≡ row_at name_cmp name_of m (view_after name addr past)
 
-pub data ViewHearing (name : List ℕ) (addr : Addr) (c : Claim) (past : List Claim) : Type 0 where
+pub data ViewHearing (name : List ℕ) (addr : Addr) (c : Claim) (past : List OwnFact) : Type 0 where
   Changes : IsChange name addr c past → ViewHearing name addr c past
-  Leaves : changes_record (standing_of name addr past) c ≡ false → view_after name addr (c ∷ past) ≡ view_after name addr past → ViewHearing name addr c past
+  Leaves : changes_record (standing_of name addr past) c ≡ false → view_after name addr (Told c ∷ past) ≡ view_after name addr past → ViewHearing name addr c past
 
 -- the own record changes where the own number rises, and nowhere else
 stays : (o : OwnHeard) (i : ℕ) (me : OwnValue) → is_rise o ≡ false → own_record (oneself_changed o i me) ≡ own_record me
@@ -107,37 +107,53 @@ beyond_rises o i me h l t = elim (cases_Bool (ltb i 1000000000)) [
   | inr many ↦ absurd (false≢true (sym (ap is_rise (ap (λ b. cond b o Ousted) many)) ∙ t))
 ]
 
-rises : (s : Status) (i : ℕ) (me : OwnValue) → is_rise (own_hearing_at s i me.number) ≡ true → me.number < (oneself_changed (own_hearing_at s i me.number) i me).number
-rises Alive i me t = elim (cases_Bool (ltb me.number i)) [
+rises : (s : Status) (i : ℕ) (me : OwnValue) → me.left ≡ false → is_rise (own_hearing_at s i me.number) ≡ true → me.number < (oneself_changed (own_hearing_at s i me.number) i me).number
+rises Alive i me here t = elim (cases_Bool (ltb me.number i)) [
   | inl l ↦ (
       let less : me.number < i = ltb-true me.number i l in
-      rw l (beyond_rises Raised i me (λ j. refl) (omega (arith, less)) (sym (ap is_rise (ap (λ b. cond b (beyond i Raised) Ignored) l)) ∙ t)))
+      rw l (beyond_rises Raised i me (λ j. raised_here j me here) (omega (arith, less)) (sym (ap is_rise (ap (λ b. cond b (beyond i Raised) Ignored) l)) ∙ t)))
   | inr f ↦ absurd (false≢true (sym (ap is_rise (ap (λ b. cond b (beyond i Raised) Ignored) f)) ∙ t))
 ]
-rises (Suspect a) i me t = elim (cases_Bool (leb me.number i)) [
+rises (Suspect a) i me here t = elim (cases_Bool (leb me.number i)) [
   | inl l ↦ rw l (beyond_rises Refuted i me (λ j. refl) (leb-true me.number i l) (sym (ap is_rise (ap (λ b. cond b (beyond i Refuted) Ignored) l)) ∙ t))
   | inr f ↦ absurd (false≢true (sym (ap is_rise (ap (λ b. cond b (beyond i Refuted) Ignored) f)) ∙ t))
 ]
-rises Failed i me t = elim (cases_Bool (leb me.number i)) [
-  | inl l ↦ rw l (beyond_rises Raised i me (λ j. refl) (leb-true me.number i l) (sym (ap is_rise (ap (λ b. cond b (beyond i Raised) Ignored) l)) ∙ t))
+rises Failed i me here t = elim (cases_Bool (leb me.number i)) [
+  | inl l ↦ rw l (beyond_rises Raised i me (λ j. raised_here j me here) (leb-true me.number i l) (sym (ap is_rise (ap (λ b. cond b (beyond i Raised) Ignored) l)) ∙ t))
   | inr f ↦ absurd (false≢true (sym (ap is_rise (ap (λ b. cond b (beyond i Raised) Ignored) f)) ∙ t))
 ]
-rises Left i me t = elim (cases_Bool (leb me.number i)) [
-  | inl l ↦ rw l (beyond_rises Raised i me (λ j. refl) (leb-true me.number i l) (sym (ap is_rise (ap (λ b. cond b (beyond i Raised) Ignored) l)) ∙ t))
+rises Left i me here t = elim (cases_Bool (leb me.number i)) [
+  | inl l ↦ rw l (beyond_rises Raised i me (λ j. raised_here j me here) (leb-true me.number i l) (sym (ap is_rise (ap (λ b. cond b (beyond i Raised) Ignored) l)) ∙ t))
   | inr f ↦ absurd (false≢true (sym (ap is_rise (ap (λ b. cond b (beyond i Raised) Ignored) f)) ∙ t))
+]
+
+left_rises : (i : ℕ) (me : OwnValue) → me.left ≡ true → is_rise (left_hearing_at i me.number) ≡ true → me.number < (oneself_changed (left_hearing_at i me.number) i me).number
+left_rises i me gone t = elim (cases_Bool (ltb me.number i)) [
+  | inl l ↦ rw l (omega (arith, raised_gone i me gone, ltb-true me.number i l))
+  | inr f ↦ absurd (false≢true (sym (ap is_rise (ap (λ b. cond b Raised Ignored) f)) ∙ t))
+]
+
+oneself_rises : (s : Status) (i : ℕ) (me : OwnValue) → is_rise (oneself_hearing me s i) ≡ true → me.number < (oneself_changed (oneself_hearing me s i) i me).number
+oneself_rises s i me t = elim (cases_Bool me.left) [
+  | inl gone ↦ (
+      let is = oneself_hearing-gone me s i gone in
+      subst (λ h. me.number < (oneself_changed h i me).number) (sym is) (left_rises i me gone (sym (ap is_rise is) ∙ t)))
+  | inr here ↦ (
+      let is = oneself_hearing-here me s i here in
+      subst (λ h. me.number < (oneself_changed h i me).number) (sym is) (rises s i me here (sym (ap is_rise is) ∙ t)))
 ]
 
 rises_heard : (me : OwnValue) (c : Claim) → is_rise (own_hearing me c) ≡ true → me.number < (own_heard me c).number
 rises_heard me c t = elim (cases_key names_order c.name me.name) [
-  | inl e ↦ rw (same_key names_order c.name me.name e) (rises c.status c.incarnation me (sym (ap is_rise (own_hearing-same me c e)) ∙ t))
+  | inl e ↦ rw (same_key names_order c.name me.name e) (oneself_rises c.status c.incarnation me (sym (ap is_rise (own_hearing-same me c e)) ∙ t))
   | inr d ↦ absurd (false≢true (sym (ap is_rise (own_hearing-other me c d)) ∙ t))
 ]
 
-view_hearing_own : (name : List ℕ) (addr : Addr) (c : Claim) (past : List Claim) → c.name ≡ name → ViewHearing name addr c past
+view_hearing_own : (name : List ℕ) (addr : Addr) (c : Claim) (past : List OwnFact) → c.name ≡ name → ViewHearing name addr c past
 view_hearing_own name addr c past e =
     let me = own_of name addr past in
-    let is : own_of name addr (c ∷ past) ≡ own_heard me c = own-same name addr c past e in
-    let table = table-own name c past e in
+    let is : own_of name addr (Told c ∷ past) ≡ own_heard me c = own-same name addr c past e in
+    let table = table-own name c (claims_told past) e in
     let test = changes_record-own (standing_of name addr past) c (e ∙ sym (own_of_name name addr past)) in
     elim (cases_Bool (is_rise (own_hearing me c))) [
       | inl t ↦ (
@@ -146,9 +162,9 @@ view_hearing_own name addr c past e =
           Changes record {
             changes = test ∙ t;
             r = own_record (own_heard me c);
-            row = row_at-own name addr (c ∷ past) c.name (sym e) ∙ ap (λ o. Some (own_record o)) is;
-            follows = subst (Follows (own_record (own_heard me c))) (sym before) (greater_overrides Alive Alive (own_heard me c).number me.number more);
-            others = λ m d. (let other : name ≢ m = λ s. d (e ∙ s) in row_at-others name addr (c ∷ past) m other ∙ ap (row_at name_cmp name_of m) table ∙ sym (row_at-others name addr past m other));
+            row = row_at-own name addr (Told c ∷ past) c.name (sym e) ∙ ap (λ o. Some (own_record o)) is;
+            follows = subst (Follows (own_record (own_heard me c))) (sym before) (greater_overrides (own_record (own_heard me c)).status (own_record me).status (own_heard me c).number me.number more);
+            others = λ m d. (let other : name ≢ m = λ s. d (e ∙ s) in row_at-others name addr (Told c ∷ past) m other ∙ ap (row_at name_cmp name_of m) table ∙ sym (row_at-others name addr past m other));
           })
       | inr f ↦ (
           let record_stays = ap own_record is ∙ stays (own_hearing me c) c.incarnation me f in
@@ -166,32 +182,32 @@ follows_table name c past t = elim (held (row_at name_cmp name_of c.name (table_
     known true h = h
     known false h = absurd cc
 
-view_hearing_taken : (name : List ℕ) (addr : Addr) (c : Claim) (past : List Claim) → c.name ≢ name → IsTaken name c past → ViewHearing name addr c past
+view_hearing_taken : (name : List ℕ) (addr : Addr) (c : Claim) (past : List OwnFact) → c.name ≢ name → IsTaken name c (claims_told past) → ViewHearing name addr c past
 view_hearing_taken name addr c past d t =
     let d' : name ≢ c.name = λ e. d (sym e) in
-    let table : table_of name (c ∷ past) ≡ put_row name_cmp name_of c (table_of name past) = sym (heard-table name c past d) ∙ heard_taken (table_of name past) c t.taken in
+    let table : table_of name (c ∷ claims_told past) ≡ put_row name_cmp name_of c (table_of name (claims_told past)) = sym (heard-table name c (claims_told past) d) ∙ heard_taken (table_of name (claims_told past)) c t.taken in
     let own = own-other name addr c past d in
     Changes record {
       changes = changes_record-other (standing_of name addr past) c (λ e. d (e ∙ own_of_name name addr past)) ∙ t.taken;
       r = c;
-      row = row_at-others name addr (c ∷ past) c.name d' ∙ ap (row_at name_cmp name_of c.name) table ∙ row_at-put names_order name_of c.name c (table_of name past) ∙ ap (λ b. cond b (Some c) (row_at name_cmp name_of c.name (table_of name past))) (same_key names_order c.name c.name refl);
-      follows = subst (Follows c) (sym (row_at-others name addr past c.name d')) (follows_table name c past t);
+      row = row_at-others name addr (Told c ∷ past) c.name d' ∙ ap (row_at name_cmp name_of c.name) table ∙ row_at-put names_order name_of c.name c (table_of name (claims_told past)) ∙ ap (λ b. cond b (Some c) (row_at name_cmp name_of c.name (table_of name (claims_told past)))) (same_key names_order c.name c.name refl);
+      follows = subst (Follows c) (sym (row_at-others name addr past c.name d')) (follows_table name c (claims_told past) t);
       others = λ m u. elim (cases_key names_order name m) [
-        | inl s ↦ row_at-own name addr (c ∷ past) m s ∙ ap (λ o. Some (own_record o)) own ∙ sym (row_at-own name addr past m s)
-        | inr v ↦ row_at-others name addr (c ∷ past) m v ∙ ap (row_at name_cmp name_of m) table ∙ row_at-put names_order name_of m c (table_of name past) ∙ ap (λ b. cond b (Some c) (row_at name_cmp name_of m (table_of name past))) (other_key names_order c.name m u) ∙ sym (row_at-others name addr past m v)
+        | inl s ↦ row_at-own name addr (Told c ∷ past) m s ∙ ap (λ o. Some (own_record o)) own ∙ sym (row_at-own name addr past m s)
+        | inr v ↦ row_at-others name addr (Told c ∷ past) m v ∙ ap (row_at name_cmp name_of m) table ∙ row_at-put names_order name_of m c (table_of name (claims_told past)) ∙ ap (λ b. cond b (Some c) (row_at name_cmp name_of m (table_of name (claims_told past)))) (other_key names_order c.name m u) ∙ sym (row_at-others name addr past m v)
       ];
     }
 
-view_hearing_passed : (name : List ℕ) (addr : Addr) (c : Claim) (past : List Claim) → c.name ≢ name → takes (table_of name past) c ≡ false → ViewHearing name addr c past
+view_hearing_passed : (name : List ℕ) (addr : Addr) (c : Claim) (past : List OwnFact) → c.name ≢ name → takes (table_of name (claims_told past)) c ≡ false → ViewHearing name addr c past
 view_hearing_passed name addr c past d f =
-    let table : table_of name (c ∷ past) ≡ table_of name past = sym (heard-table name c past d) ∙ heard_passed (table_of name past) c f in
+    let table : table_of name (c ∷ claims_told past) ≡ table_of name (claims_told past) = sym (heard-table name c (claims_told past) d) ∙ heard_passed (table_of name (claims_told past)) c f in
     let own = own-other name addr c past d in
     Leaves (changes_record-other (standing_of name addr past) c (λ e. d (e ∙ own_of_name name addr past)) ∙ f) (λ i. view_of (own_record (own i)) (table i))
 
-pub view_hearing : (name : List ℕ) (addr : Addr) (c : Claim) (past : List Claim) → ViewHearing name addr c past
+pub view_hearing : (name : List ℕ) (addr : Addr) (c : Claim) (past : List OwnFact) → ViewHearing name addr c past
 view_hearing name addr c past = elim (cases_key names_order c.name name) [
   | inl e ↦ view_hearing_own name addr c past e
-  | inr d ↦ elim (heard_cases name c past d) [
+  | inr d ↦ elim (heard_cases name c (claims_told past) d) [
     | Taken t ↦ view_hearing_taken name addr c past d t
     | Unbeaten k ↦ view_hearing_passed name addr c past d k.taken
     | Out o ↦ view_hearing_passed name addr c past d o.taken

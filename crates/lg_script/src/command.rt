@@ -6,7 +6,7 @@ use arrayvec::ArrayVec;
 use lg_rules::Name;
 use lg_timing::{Key, MAX_SEEDS, Moment, Seed};
 
-/// How many random words a tick has: 8 (this project's choice).
+/// How many random words a tick or a leave has: 8 (this project's choice).
 pub const RANDOM_WORDS: usize = 8;
 
 /// A command of a script (this project's choice).
@@ -71,6 +71,15 @@ pub enum Command {
         now: Moment,
         /// To which port at 127.0.0.1, 1 to 65535.
         port: u16,
+    },
+    /// A member leaves.
+    Leave {
+        /// Which member.
+        name: Name,
+        /// When.
+        now: Moment,
+        /// Its random words. Those that the line lacks are 0.
+        words: [u32; RANDOM_WORDS],
     },
     /// Shows the table of a member.
     Table {

@@ -11,7 +11,7 @@ use thiserror::Error;
 #[derive(Clone, Copy, Debug, PartialEq, Eq, Error)]
 pub enum ScriptFault {
     /// The first word names no command, or there is none.
-    #[error("a line begins with set, open, tick, deliver, ask, health, pull or table")]
+    #[error("a line begins with set, open, tick, deliver, ask, health, pull, leave or table")]
     Command,
     /// A space is doubled, leads or trails, or the command takes another number of words.
     #[error("one space stands between two words, and each command takes words of its own")]

@@ -7,7 +7,7 @@
 ghost use Rattle.std.specs.Prelude.{◌≡◌, ◌≤◌, length};
 ghost use Rattle.std.specs.Option.{option_map};
 ghost use Rattle.lg_script.specs.Meaning.Commands.{ask_command, deliver_command, health_command, open_command};
-ghost use Rattle.lg_script.specs.Meaning.Commands.{pull_command, command_named};
+ghost use Rattle.lg_script.specs.Meaning.Commands.{leave_command, pull_command, command_named};
 ghost use Rattle.lg_script.specs.Meaning.Commands.{set_command, table_command, tick_command};
 ghost use Rattle.lg_script.specs.Meaning.Values.{at_most_of, random_word_of, seeds_of, with_missing};
 ghost use Rattle.lg_script.specs.Meaning.Bounds.{random_words};
@@ -101,7 +101,7 @@ fn random_words_in(words: Option<&[u8]>) -> Option<ArrayVec<u32, RANDOM_WORDS>>
     Some(random)
 }
 
-/// The random words of a tick; those that are missing are 0.
+/// The random words of a tick or a leave; those that are missing are 0.
 fn with_missing(random: &[u32]) -> [u32; RANDOM_WORDS]
     requires { length random.now ≤ RANDOM_WORDS }
     ensures { result ≡ with_missing random.now }
@@ -163,6 +163,23 @@ fn pull_in(words: Option<&[u8]>) -> Option<Command>
     Some(Command::Pull { name, now, port })
 }
 
+/// `leave NAME MOMENT WORD..`.
+#[tactic(auto, unfolding(crate::specs::Meaning::Commands::leave_command))]
+fn leave_in(words: Option<&[u8]>) -> Option<Command>
+    ensures { result ≡ leave_command (words_left words.entry) }
+{
+    let (name, words) = cut_word(words);
+    let (now, words) = cut_word(words);
+    let name = name_in(name)?;
+    let now = moment_in(now)?;
+    let random = random_words_in(words)?;
+    Some(Command::Leave {
+        name,
+        now,
+        words: with_missing(&random),
+    })
+}
+
 /// `table NAME`.
 #[tactic(auto, unfolding(crate::specs::Meaning::Commands::table_command))]
 fn table_in(words: Option<&[u8]>) -> Option<Command>
@@ -185,6 +202,7 @@ pub(crate) fn command_named(verb: Verb, words: Option<&[u8]>) -> Option<Command>
         Verb::Ask => ask_in(words),
         Verb::Health => health_in(words),
         Verb::Pull => pull_in(words),
+        Verb::Leave => leave_in(words),
         Verb::Table => table_in(words),
     }
 }

@@ -27,8 +27,8 @@ pub(crate) fn moment_in(word: &[u8]) -> Option<Moment>
     Moment::new(number_within(word, 0, MAX_MOMENT)?)
 }
 
-/// The random word of a tick that some bytes spell: 1 to 16 decimal digits, a number of at most 4,294,967,295. Any
-/// other bytes give `None`. No memory is allocated.
+/// The random word of a tick or a leave that some bytes spell: 1 to 16 decimal digits, a number of at most
+/// 4,294,967,295. Any other bytes give `None`. No memory is allocated.
 pub fn random_word_in(word: &[u8]) -> Option<u32>
     ensures { result ≡ random_word_of word.now }
 {

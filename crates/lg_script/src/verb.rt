@@ -22,6 +22,8 @@ pub(crate) enum Verb {
     Health,
     /// `pull NAME MOMENT PORT`.
     Pull,
+    /// `leave NAME MOMENT WORD..`.
+    Leave,
     /// `table NAME`.
     Table,
 }
@@ -45,6 +47,8 @@ pub(crate) fn verb_of(word: &[u8]) -> Option<Verb>
         Some(Verb::Health)
     } else if word == b"pull".as_slice() {
         Some(Verb::Pull)
+    } else if word == b"leave".as_slice() {
+        Some(Verb::Leave)
     } else if word == b"table".as_slice() {
         Some(Verb::Table)
     } else {
@@ -59,7 +63,7 @@ pub(crate) fn takes_words(verb: Verb, words: usize) -> bool
     match verb {
         Verb::Set | Verb::Deliver | Verb::Health => words == 2,
         Verb::Open => words >= 3,
-        Verb::Tick => (2..=10).contains(&words),
+        Verb::Tick | Verb::Leave => (2..=10).contains(&words),
         Verb::Ask | Verb::Pull => words == 3,
         Verb::Table => words == 1,
     }

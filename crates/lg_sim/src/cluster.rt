@@ -22,7 +22,7 @@ ghost use Rattle.lg_sim.specs.declared.cluster.Stop.TheVariants.{NoMemory};
 use crate::host::{Host, Member, RunBuffers, SentPacket, lead};
 use arrayvec::ArrayVec;
 use lg_detector::{Detector, Event, NoMemory};
-use lg_lines::put_table;
+use lg_lines::{PacketRow, put_table};
 use lg_rules::{Addr, Name};
 use lg_script::{ScriptFault, local};
 use lg_timing::{Config, Key, MAX_SEEDS, Moment, Seed};
@@ -247,19 +247,15 @@ impl Cluster {
         Ok(())
     }
 
-    /// Where the packet with a number goes, and what happens there when it is delivered.
-    fn delivery(&self, packet: u64, now: Moment) -> Option<(Addr, Event)>
+    /// Where the packet with a number goes, and what happens there when it is delivered. `row` is a scratch buffer.
+    fn delivery(&self, packet: u64, now: Moment, row: &mut PacketRow) -> Option<(Addr, Event)>
         ensures { result ≡ delivery_of now (packet_number packet self.now.sent.items) }
     {
         if packet == 0 {
             return None;
         }
         let sent = self.sent.get(packet as usize - 1)?;
-        let event = Event::Heard {
-            now,
-            source: sent.from,
-            packet: sent.outgoing.packet.copy(),
-        };
+        let event = sent.arrival(now, row);
         Some((sent.outgoing.to, event))
     }
 
@@ -282,7 +278,7 @@ impl Cluster {
             → LedOn self.old self.new text.old.items text.new.items members past
             (delivered now (packet_number packet (sent past)) members)) }
     {
-        let Some((to, event)) = self.delivery(packet, now) else {
+        let Some((to, event)) = self.delivery(packet, now, &mut buffers.row) else {
             return Err(Stop::Faulty(ScriptFault::Packet));
         };
         let Some(at) = self.place_at(&to) else {

@@ -64,6 +64,9 @@ pub fn run_command(
             let peer = local(port);
             cluster.happen_at(&name, &Event::Pull { now, peer }, buffers, text)
         }
+        Command::Leave { name, now, words } => {
+            cluster.happen_at(&name, &Event::Leave { now, words }, buffers, text)
+        }
         Command::Table { name } => cluster.put_table_of(alloc, &name, text),
     }
 }

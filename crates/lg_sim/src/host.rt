@@ -1,17 +1,19 @@
 //! A member of a cluster with its detector, and what it does when something happens.
 //!
-//! Defined in: `specs/Meaning/Members.antt`, `lg_detector/specs/Meaning/Step.antt`.
-//! Tested in: `cases/sim.case`.
+//! Defined in: `specs/Meaning/Members.antt`, `specs/Meaning/Past.antt`, `lg_detector/specs/Meaning/Step.antt`.
+//! Tested in: `cases/sim.case`, `cases/sim_leave.case`, `cases/sim_left.case`.
 ghost use Rattle.std.specs.Prelude.{◌≡◌, ◌+◌, ◌∷◌, ◌++◌, [], List, IsTrue, OnOk, map, vec_len};
 ghost use Rattle.lg_detector.specs.Meaning.Step.{reply_after};
 ghost use Rattle.lg_detector.specs.Support.Step.{accepts_of, state_after};
 ghost use Rattle.lg_detector.specs.declared.event.Event.{Event as Happened};
 ghost use Rattle.lg_lines.specs.Meaning.Replies.{reply_text};
 ghost use Rattle.lg_sim.specs.Meaning.Members.{is_at, is_named, sent_from};
+ghost use Rattle.lg_sim.specs.Meaning.Past.{arrival};
 
 use lg_detector::{Detector, Event, NoMemory, Outgoing, Reply};
 use lg_lines::{PacketRow, put_reply};
 use lg_rules::{Addr, Name};
+use lg_timing::Moment;
 
 /// A member of the cluster.
 #[derive(Clone, Copy, Debug, PartialEq, Eq)]
@@ -62,6 +64,22 @@ impl Member {
         ensures { result ≡ is_at addr.now self.now }
     {
         self.addr == *addr
+    }
+}
+
+impl SentPacket {
+    /// The event that the packet is heard: as its bytes tell it, and from the address of its sender. `row` is a scratch
+    /// buffer; what it holds before or after doesn't matter.
+    pub fn arrival(&self, now: Moment, row: &mut PacketRow) -> Event
+        ensures { result ≡ arrival now self.now }
+    {
+        lg_packet::encode(&self.outgoing.packet, row);
+        let packet = lg_packet::decode(row.as_slice()).unwrap();
+        Event::Heard {
+            now,
+            source: self.from,
+            packet,
+        }
     }
 }
 

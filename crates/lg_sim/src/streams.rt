@@ -12,13 +12,13 @@ use std::io::{Read, Write};
 
 /// Runs a script: reads all that a reader has left, and writes what the script gives, and nothing else.
 ///
-/// Each line is a command, `set`, `open`, `tick`, `deliver`, `ask`, `health`, `pull` or `table`, as `lg_script` reads
-/// them, and each command gives lines of text. The members that are opened are at 127.0.0.1; there are at most
-/// [`MAX_CLUSTER`]. The packets that members send are numbered from 1 over all members. A packet is heard only if a
-/// command delivers it, which may be never, again, and in any order. If no member is at its destination, it gives the
-/// line `nobody`. A line that is empty or begins with `#` is passed over, but counted. The first faulty line gives
-/// `fault LINE KIND` as the last line of the text; lines count from 1, and `lg_script::ScriptFault` has the kinds.
-/// The end is then [`RunEnd::Faulty`] (all this project's choice).
+/// Each line is a command, `set`, `open`, `tick`, `deliver`, `ask`, `health`, `pull`, `leave` or `table`, as
+/// `lg_script` reads them, and each command gives lines of text. The members that are opened are at 127.0.0.1; there
+/// are at most [`MAX_CLUSTER`]. The packets that members send are numbered from 1 over all members. A packet is heard
+/// only if a command delivers it, which may be never, again, and in any order. If no member is at its destination, it
+/// gives the line `nobody`. A line that is empty or begins with `#` is passed over, but counted. The first faulty line
+/// gives `fault LINE KIND` as the last line of the text; lines count from 1, and `lg_script::ScriptFault` has the
+/// kinds. The end is then [`RunEnd::Faulty`] (all this project's choice).
 ///
 /// [`MAX_CLUSTER`]: crate::MAX_CLUSTER
 ///

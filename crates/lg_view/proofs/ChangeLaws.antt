@@ -8,7 +8,7 @@ use Rattle.lg_rules.specs.declared.claim.Claim.{Claim}
 use Rattle.lg_changes.specs.declared.change.Change.{Change}
 use Rattle.lg_changes.specs.Meaning.Changes.{change_at, is_after}
 use Rattle.lg_detector.specs.declared.event.Event.{Event}
-use Rattle.lg_detector.specs.declared.event.Event.TheVariants.{Open, Tick, Heard, Ask, Health, Pull}
+use Rattle.lg_detector.specs.declared.event.Event.TheVariants.{Open, Tick, Heard, Ask, Health, Pull, Leave}
 use Rattle.lg_detector.specs.Meaning.Step.{is_open_event, moment_after, reply_after, view_after}
 use Rattle.lg_timing.specs.declared.config.Config.{Config}
 use Rattle.lg_view.specs.Meaning.Changes.{changed_at, changes_at, changes_behind, changes_of}
@@ -58,6 +58,7 @@ not_open (Heard now source packet) other = refl
 not_open (Ask now name) other = refl
 not_open (Health now) other = refl
 not_open (Pull now peer) other = refl
+not_open (Leave now words) other = refl
 
 later_pass : (n v m : ℕ) (rows : List Claim) → nat_lt n v ≡ true → filter (is_after n) (map (change_at v m) rows) ≡ map (change_at v m) rows
 later_pass n v m [] later = refl

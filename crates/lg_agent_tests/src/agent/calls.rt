@@ -38,6 +38,8 @@ pub enum Happens {
     Health(u64),
     /// The member at port 7001 is asked for its table.
     Pull(u64),
+    /// b leaves, by words that are all this one.
+    Leave(u64, u32),
 }
 
 /// A call or a look.
@@ -181,6 +183,7 @@ pub fn make_call<A: AgentName, R: Wait>(
         Happens::Ask(now) => pass.ask(rt, alloc, at(now), &letter(b'c')),
         Happens::Health(now) => pass.health(rt, alloc, at(now)),
         Happens::Pull(now) => pass.pull(rt, alloc, at(now), local(7001)),
+        Happens::Leave(now, word) => pass.leave(rt, alloc, at(now), [word; 8]),
     }
 }
 
@@ -209,6 +212,7 @@ pub fn make_call_into<A: AgentName, R: Wait>(
         Happens::Ask(now) => pass.ask_into(rt, alloc, at(now), &letter(b'c'), kept),
         Happens::Health(now) => pass.health_into(rt, alloc, at(now), kept),
         Happens::Pull(now) => pass.pull_into(rt, alloc, at(now), local(7001), kept),
+        Happens::Leave(now, word) => pass.leave_into(rt, alloc, at(now), [word; 8], kept),
     }
 }
 

@@ -1,5 +1,5 @@
 //! Both forms of a pass's calls: one returns its reply, and the other writes it over a reply that its caller keeps.
-use super::calls::Happens::{self, Ask, Datagram, Health, Pull, Tick};
+use super::calls::Happens::{self, Ask, Datagram, Health, Leave, Pull, Tick};
 use super::calls::{Heard, make_call, make_call_into};
 use crate::playing::{Play, Shown, told};
 use lg_agent::{AgentName, Pass, Refusal, Spent};
@@ -28,8 +28,8 @@ pub struct After {
     reply: Reply,
 }
 
-/// The most entries of the history: the opening and five calls.
-const LIMIT: u64 = 6;
+/// The most entries of the history: the opening and six calls.
+const LIMIT: u64 = 7;
 
 const FULL: Result<u64, Refusal> = Err(Refusal::HistoryFull(LIMIT));
 
@@ -44,11 +44,13 @@ const ROWS: &[(Happens, Result<u64, Refusal>)] = &[
     (Ask(2), Ok(3)),
     (Health(3), Ok(4)),
     (Pull(4), Ok(5)),
+    (Leave(5, 0), Ok(6)),
     (Datagram(5, Heard::PingOfC), FULL),
     (Tick(600, 0), FULL),
     (Ask(600), FULL),
     (Health(600), FULL),
     (Pull(600), FULL),
+    (Leave(600, 0), FULL),
 ];
 
 /// A call that returns its reply, which is then kept.

@@ -15,11 +15,11 @@ fn is_whole(outcome: &Outcome<Shown>, entries: u64, base: u64) -> bool {
     }
 }
 
-/// After five calls c is known, and a round has begun. Each call has its place, and is published then.
+/// After six calls c is known, a round has begun, and b has left. Each call has its place, and is published then.
 #[test]
 fn goes_on_after_refused_memory(rt: HostRuntime) {
     let met = match play_each_call(&rt, rt.alloc()) {
-        Ok(outcome) => is_whole(&outcome, 6, 0),
+        Ok(outcome) => is_whole(&outcome, 7, 0),
         Err(_) => false,
     };
     assert!(rt; met);

@@ -1,8 +1,8 @@
 //! Agents of one place and of two. Each case is a list of calls and looks, with what each gives.
-use super::calls::Happens::{Ask, Datagram, Health, Pull, Tick};
+use super::calls::Happens::{Ask, Datagram, Health, Leave, Pull, Tick};
 use super::calls::{Call, Heard};
 use super::steps::Row;
-use super::wanted::Want::{Alive, Healthy, KnowsC, Number, Refused, Round, Sent};
+use super::wanted::Want::{Alive, Healthy, KnowsC, Left, Number, Refused, Round, Sent};
 use crate::playing::{Play, Shown, told, told_at_last};
 use lg_agent::{CloseFault, Refusal};
 use lg_agent_testing::{Case, Ending, Outcome};
@@ -41,7 +41,8 @@ where
     seen_in(&outcome)
 }
 
-/// Each call of one pass, with a look after it that shows it. After the calls c is known, and a round has begun.
+/// Each call of one pass, with a look after it that shows it. After the calls c is known, a round has begun, and b has
+/// left.
 const EACH_CALL: &[Row] = &[
     (0, Call::Event(Datagram(0, Heard::PingOfC)), Sent(1, 1, 0)),
     (0, Call::Version, Number(2)),
@@ -53,6 +54,9 @@ const EACH_CALL: &[Row] = &[
     (0, Call::Version, Number(5)),
     (0, Call::Event(Pull(4)), Sent(5, 1, 501)),
     (0, Call::Version, Number(6)),
+    (0, Call::Event(Leave(5, 0)), Sent(6, 1, 1005)),
+    (0, Call::Version, Number(7)),
+    (0, Call::StatusOf(b'b'), Left(b'b', 7000)),
     (0, Call::Members, Number(2)),
 ];
 
@@ -110,6 +114,17 @@ const EARLIER: &[Row] = &[
     (1, Call::Event(Tick(4000, 0)), Round(2, 5500)),
 ];
 
+/// b leaves in version 3, and tells c by one packet. Its record is Left in the table that readers see. It leaves once
+/// more, and tells nobody.
+const LEAVES: &[Row] = &[
+    (0, Call::StatusOf(b'b'), Alive(b'b', 7000)),
+    (0, Call::Event(Leave(1, 0)), Sent(1, 1, 0)),
+    (0, Call::StatusOf(b'b'), Left(b'b', 7000)),
+    (0, Call::Version, Number(2)),
+    (0, Call::Event(Leave(2, 0)), Sent(2, 0, 0)),
+    (0, Call::StatusOf(b'b'), Left(b'b', 7000)),
+];
+
 /// A name, how many places the agent has and how many others it knows, the limit on its history, and the steps. Then
 /// the fault of the first closing if what the first pass left is missing there, and the number of entries.
 type AgentRow = (
@@ -150,4 +165,13 @@ fn each_call_and_look(rt: HostRuntime) {
         let want = Some((None, 0, Ending::closed(*fault, *entries)));
         assert_eq!(rt; play(&rt, rt.alloc(), case), want, "{name}");
     }
+}
+
+/// A leave in version 3.
+#[test]
+fn leaves_its_group(rt: HostRuntime) {
+    let mut case = case(1, 1, 20_000, LEAVES);
+    case.wire = 3;
+    let want = Some((None, 0, Ending::closed(None, 3)));
+    assert_eq!(rt; play(&rt, rt.alloc(), case), want);
 }

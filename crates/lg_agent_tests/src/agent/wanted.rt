@@ -21,16 +21,23 @@ pub enum Want {
     Number(u64),
     /// The record of the member named by a letter, alive at a port with the incarnation 0.
     Alive(u8, u16),
+    /// The same, but Left.
+    Left(u8, u16),
 }
 
-/// The record of the member named by a letter, alive at a port with the incarnation 0.
-fn alive(member: u8, port: u16) -> Record {
+/// The record of the member named by a letter, at a port with the incarnation 0.
+fn record(member: u8, port: u16, status: Status) -> Record {
     Record {
         name: letter(member),
         addr: local(port),
-        status: Status::Alive,
+        status,
         incarnation: incarnation(0),
     }
+}
+
+/// The same, alive.
+fn alive(member: u8, port: u16) -> Record {
+    record(member, port, Status::Alive)
 }
 
 /// An answer that says nothing, with this place and this next deadline.
@@ -88,6 +95,7 @@ impl Want {
             Want::Refused(refusal) => Seen::Refused(refusal),
             Want::Number(number) => Seen::Number(number),
             Want::Alive(member, port) => Seen::Record(Some(alive(member, port))),
+            Want::Left(member, port) => Seen::Record(Some(record(member, port, Status::Left))),
         }
     }
 

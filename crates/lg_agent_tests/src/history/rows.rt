@@ -1,8 +1,8 @@
 //! Made-up events and replies: each kind of event, each part of a reply, and what takes the most memory.
 use lg_detector::{Answer, Event, MAX_SENDS, Outgoing, Reply, Sends, Timer, TimerId};
 use lg_packet::{Body, Version};
-use lg_rules::{Addr, Claim, Incarnation, Name};
-use lg_testing::{ack, alive, at, failed, letter, local, packet, said, suspect};
+use lg_rules::{Addr, Claim, Incarnation, Name, Status};
+use lg_testing::{ack, alive, at, claim, failed, letter, local, packet, said, suspect};
 use lg_timing::{Config, Seed};
 
 /// An event, the reply to it, and whom the start of a round chose.
@@ -167,6 +167,22 @@ fn pull() -> Row {
     }
 }
 
+/// b leaves, and tells c.
+fn leave() -> Row {
+    let left = [claim(letter(b'b'), Status::Left, 0)];
+    let mut reply = nothing(0);
+    reply.sends = one(to(7003, Body::Page, &left));
+    reply.changed = said(&left);
+    Row {
+        event: Event::Leave {
+            now: at(10),
+            words: [4_294_967_295, 6, 5, 4, 3, 2, 1, 0],
+        },
+        reply,
+        chosen: None,
+    }
+}
+
 /// A Ping for b with a suspicion of b that nothing can refute: b is ousted.
 fn ousting() -> Row {
     let (number, target) = (1, letter(b'b'));
@@ -208,7 +224,7 @@ fn full() -> Row {
 }
 
 /// All of them.
-pub(super) fn all() -> [Row; 10] {
+pub(super) fn all() -> [Row; 11] {
     [
         opening(),
         ping(),
@@ -218,6 +234,7 @@ pub(super) fn all() -> [Row; 10] {
         round_start(),
         suspicion(),
         pull(),
+        leave(),
         ousting(),
         full(),
     ]

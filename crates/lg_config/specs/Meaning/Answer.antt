@@ -1,13 +1,15 @@
 -- What reading a configuration file answers. If there are several faults, the first of these counts: of the document,
 -- of its keys and their types, of the form of a value, of the configuration's own check, of the node's own numbers, of
--- the status server, of the path of the key file.
-use Rattle.std.specs.Prelude.{ℕ, Bool, ◌&&◌, nat_le, List, length, Option, Some, None, Result, Ok, Err}
+-- the status server, of the path of the key file. Of the check's faults those with greater numbers than the node's own
+-- come behind all of these.
+use Rattle.std.specs.Prelude.{ℕ, Bool, ◌&&◌, nat_le, nat_lt, List, length, Option, Some, None, Result, Ok, Err}
 use Rattle.std.specs.Prelude.{if◌then◌else◌, ◌≡◌, true}
 use Rattle.std.specs.Str.{is_utf8}
 use Rattle.toml.specs.Data.{Members}
 use Rattle.toml.specs.Errors.{IsBlank}
 use Rattle.toml.specs.Parse.{parse_document}
 use Rattle.lg_timing.specs.Meaning.Config.{check_of}
+use Rattle.lg_timing.specs.Meaning.Keys.{config_fault_number}
 use Rattle.lg_timing.specs.declared.config.ConfigFault.{ConfigFault}
 use Rattle.lg_config.specs.declared.fault.FileFault.{FileFault}
 use Rattle.lg_config.specs.declared.fault.FileFault.TheVariants as fault
@@ -16,6 +18,7 @@ use Rattle.lg_config.specs.declared.fault.ReadFault.TheVariants.{NoMemory, File}
 use Rattle.lg_config.specs.declared.node.NodeConfig.{NodeConfig}
 use Rattle.lg_config.specs.declared.node_keys.NodeKey.{NodeKey}
 use Rattle.lg_config.specs.Meaning.Bounds.{most_bytes}
+use Rattle.lg_config.specs.Meaning.Faults.{fault_number}
 use Rattle.lg_config.specs.Meaning.KeyFiles.{key_file_in, with_key_file}
 use Rattle.lg_config.specs.Meaning.Keys.{are_right_keys}
 use Rattle.lg_config.specs.Meaning.NodeKeys.{node_row_of, own_broken}
@@ -35,10 +38,16 @@ abbrev pub unless_broken : NodeConfig → Option NodeKey → Result NodeConfig F
 unless_broken node None = Ok node
 unless_broken node (Some key) = Err (node_row_of key).fault
 
--- settings, or the fault that the check of their configuration finds, or that of the node's own numbers
+-- whether a fault of the check counts only if nothing else is wrong: its number is greater than those of the node's own
+abbrev pub is_late : ConfigFault → Bool
+is_late broken = nat_lt (fault_number fault.KeyFile) (config_fault_number broken)
+
+-- settings, or the fault that the check of their configuration finds, unless that counts later, or that of the node's
+-- own numbers
 abbrev pub unless_config : NodeConfig → Result (Unit {0}) ConfigFault → Result NodeConfig FileFault
 unless_config node (Ok passed) = unless_broken node (own_broken node)
-unless_config node (Err broken) = Err (fault.Config broken)
+unless_config node (Err broken) =
+    if is_late broken then unless_broken node (own_broken node) else Err (fault.Config broken)
 
 -- settings, or their fault: a value is out of its form, or a check finds a fault
 abbrev pub unless_node : Option NodeConfig → Result NodeConfig FileFault
@@ -55,10 +64,20 @@ abbrev pub and_key_file : Members → Result NodeConfig FileFault → Result Nod
 and_key_file members (Ok node) = with_key_file node (key_file_in members)
 and_key_file _ (Err found) = Err found
 
+-- the same, or the fault that the check of the configuration finds if nothing else is wrong
+abbrev pub unless_late : NodeConfig → Result (Unit {0}) ConfigFault → Result NodeConfig FileFault
+unless_late node (Ok passed) = Ok node
+unless_late node (Err broken) = Err (fault.Config broken)
+
+abbrev pub and_late : Result NodeConfig FileFault → Result NodeConfig FileFault
+and_late (Ok node) = unless_late node (check_of node.config)
+and_late (Err found) = Err found
+
 -- what a document means, or the fault Key if its keys are wrong
 abbrev pub meaning_of : Members → Result NodeConfig FileFault
 meaning_of members =
-    if are_right_keys members then and_key_file members (and_status members (unless_node (settings_of members)))
+    if are_right_keys members
+    then and_late (and_key_file members (and_status members (unless_node (settings_of members))))
     else Err fault.Key
 
 -- what a file means, or the fault Syntax if it is no document

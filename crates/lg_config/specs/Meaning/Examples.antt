@@ -249,14 +249,14 @@ long-stall : answer_of (b-with (codes "stall_ms = 60001")) ≡ Err fault.Stall
 unfolding on_files
 long-stall = refl
 
--- they are judged last, in this order
+-- they are judged in this order, before gossip and behind the other numbers
 pulls-before-stall : answer_of (b-with (codes "stall_ms = -1\npull_ms = -1")) ≡ Err fault.Pull
 unfolding on_files
 pulls-before-stall = refl
 
-gossip-before-pulls : answer_of (b-with (codes "pull_ms = -1\ngossip_to = 9")) ≡ Err (fault.Config GossipTo)
+pulls-before-gossip : answer_of (b-with (codes "pull_ms = -1\ngossip_to = 9")) ≡ Err fault.Pull
 unfolding on_files
-gossip-before-pulls = refl
+pulls-before-gossip = refl
 
 wire-before-pulls : answer_of (b-with (codes "pull_ms = -1\nwire = 4")) ≡ Err (fault.Config Wire)
 unfolding on_files
@@ -379,7 +379,11 @@ path-as-number : answer_of (b-with (codes "key_file = 1")) ≡ Err fault.Key
 unfolding on_files
 path-as-number = refl
 
--- it is judged last
+-- it is judged behind the status server, and gossip behind all
 status-before-path : answer_of (b-with (codes "key_file = \"\"\nstatus = 1")) ≡ Err fault.Status
 unfolding on_files
 status-before-path = refl
+
+path-before-gossip : answer_of (b-with (codes "key_file = \"\"\ngossip_ms = 9")) ≡ Err fault.KeyFile
+unfolding on_files
+path-before-gossip = refl

@@ -1,7 +1,8 @@
 -- Worked rows of what replies count. b is opened at 0; the others are a, c and d.
-use Rattle.std.specs.Prelude.{◌≡◌, true, false, List, [], ◌∷◌, refl}
+use Rattle.std.specs.Prelude.{◌≡◌, true, false, List, [], ◌∷◌, ◌++◌, refl}
 use Rattle.lg_packet.specs.declared.packet.Body.TheVariants.{PingReq}
 use Rattle.lg_detector.specs.declared.event.Event.{Event}
+use Rattle.lg_detector.specs.declared.event.Event.TheVariants.{Leave}
 use Rattle.lg_detector.specs.Meaning.Examples.{by_computing, a, b, c, at, alive, suspect}
 use Rattle.lg_detector.specs.Meaning.Examples.{opening, pings, says, ticks}
 use Rattle.lg_detector.specs.Meaning.Step.{reply_after}
@@ -57,3 +58,15 @@ raises_a_suspicion = refl
 refutes_a_claim : tally_after known (pings 20 2 b (suspect b 0 a ∷ [])) ≡ record nothing { refuted = true }
 unfolding by_computing
 refutes_a_claim = refl
+
+-- b leaves: its own record changes, and it refutes nothing
+leaves : tally_after known (Leave 20 (0 ∷ 0 ∷ 0 ∷ 0 ∷ 0 ∷ 0 ∷ 0 ∷ 0 ∷ [])) ≡ nothing
+unfolding by_computing
+leaves = refl
+
+-- nor does it afterwards, also when its incarnation rises
+refutes_nothing_once_it_left :
+    tally_after (known ++ Leave 20 (0 ∷ 0 ∷ 0 ∷ 0 ∷ 0 ∷ 0 ∷ 0 ∷ 0 ∷ []) ∷ []) (pings 30 2 b (suspect b 4 a ∷ []))
+    ≡ nothing
+unfolding by_computing
+refutes_nothing_once_it_left = refl

@@ -4,7 +4,7 @@ use Rattle.std.specs.List.{list_any}
 use Rattle.std.specs.Str.{bytes_eq}
 use Rattle.lg_rules.specs.declared.claim.Claim.{Claim}
 use Rattle.lg_rules.specs.declared.claim.Status.{Status}
-use Rattle.lg_rules.specs.declared.claim.Status.TheVariants.{Suspect}
+use Rattle.lg_rules.specs.declared.claim.Status.TheVariants.{Alive, Suspect}
 use Rattle.lg_packet.specs.declared.packet.Body.{Body}
 use Rattle.lg_packet.specs.declared.packet.Body.TheVariants.{Ping}
 use Rattle.lg_timers.specs.declared.timer.Timer.{Timer}
@@ -51,18 +51,24 @@ is_suspected_status _ = false
 abbrev pub is_suspected : Claim → Bool
 is_suspected c = is_suspected_status c.status
 
-abbrev pub is_of_member : List ℕ → Claim → Bool
-is_of_member name c = bytes_eq c.name name
+-- whether a record says that the member with this name is alive
+abbrev pub is_alive_status : Status → Bool
+is_alive_status Alive = true
+is_alive_status _ = false
+
+abbrev pub is_alive_of : List ℕ → Claim → Bool
+is_alive_of name c = bytes_eq c.name name && is_alive_status c.status
 
 -- A Ping begins a probe if a round starts with it. If no timer fired, it was asked for by another member. The record of
--- this member changes only if it refutes a claim: its incarnation rises then.
+-- this member becomes Alive only if it refutes a claim: its incarnation rises then. When it leaves, its record becomes
+-- Left, and that refutes nothing.
 abbrev pub tally_of : List ℕ → Reply → Tally
 tally_of name r = record {
   probe_begun = pings r && is_start r.fired;
   probe_failed = is_direct r.fired;
   probe_helped = pings r && is_none r.fired;
   suspicions_raised = count_by is_suspected r.changed.items;
-  refuted = list_any (is_of_member name) r.changed.items;
+  refuted = list_any (is_alive_of name) r.changed.items;
 }
 
 -- What a node counts of a reply of which so many packets weren't sent: the others were.

@@ -234,12 +234,12 @@ refutes_once :
 unfolding by_computing
 refutes_once = refl
 
--- this member's incarnation, and whether it was ousted
+-- this member's incarnation, and whether it was ousted; it hasn't left
 abbrev oneself_after : List Event → OwnValue
 oneself_after f = own (group_log (log_after f))
 
 abbrev b_is : ℕ → Bool → OwnValue
-b_is number ousted = record { name = b ∷ []; addr = at 7000; number = number; ousted = ousted }
+b_is number ousted = record { name = b ∷ []; addr = at 7000; number = number; ousted = ousted; left = false }
 
 a_refutation_raises_the_number : oneself_after (opening 0 ∷ accused_twice ∷ []) ≡ b_is 1 false
 unfolding by_computing

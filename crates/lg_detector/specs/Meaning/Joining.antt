@@ -36,11 +36,14 @@ with_claims to version sender body claims =
 abbrev pub own_told : Version → Claim → List Claim
 own_told v own = if tells v own.addr then own ∷ [] else []
 
-abbrev pub pull_after : Addr → Option (List ℕ) → Log → Outgoing
-pull_after to after log =
+abbrev pub own_packet : Addr → Body → Log → Outgoing
+own_packet to body log =
     let members = group_log log in
     let version = version_sent (group.config members) in
-    with_claims to version (group.me members) (Pull after) (own_told version (own_record (group.own members)))
+    with_claims to version (group.me members) body (own_told version (own_record (group.own members)))
+
+abbrev pub pull_after : Addr → Option (List ℕ) → Log → Outgoing
+pull_after to after log = own_packet to (Pull after) log
 
 -- A Page has the next records after the name of a Pull. This member's own may be among them.
 abbrev pub page_behind : Addr → Option (List ℕ) → Log → Outgoing

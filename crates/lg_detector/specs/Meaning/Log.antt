@@ -11,8 +11,8 @@ use Rattle.lg_probe.specs.declared.relays.Asker.{Asker}
 -- - AckHeard, NackHeard: an Ack, or a Nack, with this number came from the member of this name;
 -- - Relayed: a relay to the target of this name was opened for this asker;
 -- - Ended: what the event did is done;
--- - OfGroup: a fact that concerns the group. The member was opened, a claim was applied, or a packet was sent that took
---   claims of the queue.
+-- - OfGroup: a fact that concerns the group. The member was opened, a claim was applied, a packet was sent that took
+--   claims of the queue, or the member left.
 pub data Fact : Type 0 where
   Came : ℕ → Fact
   Fired : Timer → List ℕ → Fact

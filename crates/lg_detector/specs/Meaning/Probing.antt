@@ -1,6 +1,6 @@
 -- The rounds of probing: who is chosen, the probe that runs, who helps, and what came of it (SWIM, sections 3.1 and
 -- 4.3; Lifeguard, local health aware probe).
-use Rattle.std.specs.Prelude.{ℕ, ◌+◌, Bool, true, false, ◌&&◌, List}
+use Rattle.std.specs.Prelude.{ℕ, ◌+◌, Bool, true, false, not, ◌&&◌, List}
 use Rattle.std.specs.Prelude.{[], ◌∷◌, Option, Some, None, option_map}
 use Rattle.std.specs.Prelude.{is_some, slice_index, if◌then◌else◌}
 use Rattle.lg_rules.specs.declared.claim.Claim.{Claim}
@@ -28,6 +28,14 @@ is_round_start _ = false
 abbrev pub others : Log → List (List ℕ)
 others log = group.live_others (group_log log)
 
+-- whether this member left its group
+abbrev pub has_left : Log → Bool
+has_left log = (group.own (group_log log)).left
+
+-- A start of a round chooses, unless this member left: from then on it probes nobody (this project's choice).
+abbrev pub chooses : TimerId → Log → Bool
+chooses id log = is_round_start id && not (has_left log)
+
 -- The names chosen in the current cycle, the latest first. These are the choice of the last start of a round that
 -- found no candidate, and all choices since.
 abbrev pub first_word : List ℕ → ℕ
@@ -37,7 +45,7 @@ abbrev pub cycle_names : Log → List (List ℕ)
 cycle_names [] = []
 cycle_names (OfGroup (group.Opened opening) ∷ log) = []
 cycle_names (Fired timer words ∷ log) =
-    if is_round_start timer.id
+    if chooses timer.id log
     then next_cycle (others log) (cycle_names log) (first_word words)
     else cycle_names log
 cycle_names (_ ∷ log) = cycle_names log
@@ -48,9 +56,9 @@ abbrev pub cycle_candidates : Log → List (List ℕ)
 cycle_candidates log = order.candidates (others log) (order.current_cycle (others log) (cycle_names log))
 
 -- whom a start of a round with these words chooses: the candidate at the index that is the first word modulo their
--- number
+-- number, or nobody if this member left
 abbrev pub chosen : List ℕ → Log → Option (List ℕ)
-chosen words log = candidate (first_word words) (cycle_candidates log)
+chosen words log = if has_left log then None else candidate (first_word words) (cycle_candidates log)
 
 -- Whether a start of a round with these words starts a probe.
 abbrev pub starts : TimerId → List ℕ → Log → Bool
@@ -68,7 +76,8 @@ number (Fired timer words ∷ log) = if starts timer.id words log then number lo
 number (Relayed target asker ∷ log) = number log + 1
 number (_ ∷ log) = number log
 
--- The probe that runs: that of the last start of a round that chose a target, unless a round has ended since.
+-- The probe that runs: that of the last start of a round that chose a target, unless a round has ended since, or this
+-- member has left, which accuses nobody.
 pub record Probe : Type 0 where
   pub number : ℕ
   pub target : List ℕ
@@ -84,6 +93,7 @@ probe_by _ words log before = before
 abbrev pub probe : Log → Option Probe
 probe [] = None
 probe (OfGroup (group.Opened opening) ∷ log) = None
+probe (OfGroup group.Departed ∷ log) = None
 probe (Fired timer words ∷ log) = probe_by timer.id words log (probe log)
 probe (_ ∷ log) = probe log
 

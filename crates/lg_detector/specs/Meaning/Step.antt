@@ -26,7 +26,7 @@ use Rattle.lg_timers.specs.declared.timer.Timer.{Timer}
 use Rattle.lg_membership.specs.Meaning.Log as group
 use Rattle.lg_membership.specs.Meaning.Log.{group_view}
 use Rattle.lg_detector.specs.declared.event.Event.{Event}
-use Rattle.lg_detector.specs.declared.event.Event.TheVariants.{Open, Tick, Heard, Ask, Health, Pull}
+use Rattle.lg_detector.specs.declared.event.Event.TheVariants.{Open, Tick, Heard, Ask, Health, Pull, Leave}
 use Rattle.lg_detector.specs.declared.reply.Answer.{Answer}
 use Rattle.lg_detector.specs.declared.reply.Outgoing.{Outgoing}
 use Rattle.lg_detector.specs.declared.reply.Reply.{Reply}
@@ -39,6 +39,7 @@ use Rattle.lg_detector.specs.Meaning.Hear.{hear_claims, hear, sends_to}
 use Rattle.lg_detector.specs.Meaning.Tick.{tick, sends_at}
 use Rattle.lg_detector.specs.Meaning.Ask.{ask, status, health, own_standing}
 use Rattle.lg_detector.specs.Meaning.Joining.{pull, pulls}
+use Rattle.lg_detector.specs.Meaning.Leave.{leave, leave_sends}
 
 -- the log once an event has come and did what it does, and once that is over
 abbrev pub happen : Event → Log → Log
@@ -48,6 +49,7 @@ happen (Tick now words) log = tick now words log
 happen (Ask now name) log = ask now log
 happen (Health now) log = ask now log
 happen (Pull now peer) log = pull now log
+happen (Leave now words) log = leave now log
 
 abbrev pub step : Event → Log → Log
 step e log = Ended ∷ happen e log
@@ -67,6 +69,7 @@ abbrev pub sends_by : Event → Log → List Outgoing
 sends_by (Heard now source packet) log = sends_to source packet (hear_claims now packet log)
 sends_by (Tick now words) log = sends_at now words log
 sends_by (Pull now peer) log = pulls now peer log
+sends_by (Leave now words) log = leave_sends now words log
 sends_by _ log = []
 
 -- the records of the member table that weren't in it before, except for the opening;
@@ -76,6 +79,7 @@ view log = group_view (group_log log)
 abbrev pub changed_by : Event → Log → List Claim
 changed_by (Heard now source packet) log = changed (view log) (view (hear_claims now packet log))
 changed_by (Tick now words) log = changed (view log) (view (tick now words log))
+changed_by (Leave now words) log = changed (view log) (view (leave now log))
 changed_by _ log = []
 
 -- the answer to a question;

@@ -93,8 +93,9 @@ direct_at [] = 0
 direct_at (Fired timer words ∷ log) = if is_round_start timer.id then timeout_later log else direct_at log
 direct_at (_ ∷ log) = direct_at log
 
--- When the next round starts: at the moment of the opening, at the moment at which a round ended, or one scaled
--- interval after a start that chose nobody. While a probe runs, none is set.
+-- When the next round starts: at the moment of the opening, at the moment at which a round ended, one scaled interval
+-- after a start that chose nobody, or one scaled interval after this member left while a probe ran. While a probe runs,
+-- none is set.
 abbrev pub start_unless : ℕ → Option (List ℕ) → Option ℕ
 start_unless later None = Some later
 start_unless later (Some target) = None
@@ -104,9 +105,14 @@ start_by RoundStart words log before = start_unless (interval_later log) (chosen
 start_by RoundEnd words log before = Some (moment log)
 start_by _ words log before = before
 
+abbrev pub start_after_leave : ℕ → Option Probe → Option ℕ → Option ℕ
+start_after_leave later None before = before
+start_after_leave later (Some p) before = Some later
+
 abbrev pub round_start : Log → Option ℕ
 round_start [] = None
 round_start (OfGroup (group.Opened opening) ∷ log) = Some (moment log)
+round_start (OfGroup group.Departed ∷ log) = start_after_leave (interval_later log) (probe log) (round_start log)
 round_start (Fired timer words ∷ log) = start_by timer.id words log (round_start log)
 round_start (_ ∷ log) = round_start log
 

@@ -3,6 +3,7 @@ use Rattle.std.specs.Prelude.{ℕ, List, [], ◌∷◌, Option, Some, None}
 use Rattle.lg_rules.specs.declared.addr.Addr.{Addr}
 use Rattle.lg_rules.specs.declared.claim.Claim.{Claim}
 use Rattle.lg_rules.specs.Meaning.Own.{own_record}
+use Rattle.lg_packet.specs.declared.packet.Body.{Body}
 use Rattle.lg_packet.specs.declared.packet.Body.TheVariants.{Pull, Page}
 use Rattle.lg_membership.specs.Meaning.Gossip.{version_sent}
 use Rattle.lg_membership.specs.Meaning.Pages.{page_of}
@@ -11,10 +12,13 @@ use Rattle.lg_detector.specs.declared.reply.Outgoing.{Outgoing}
 use Rattle.lg_detector.specs.Meaning.Joining.{own_told, with_claims}
 use Rattle.lg_detector.specs.Support.State.{State, come_state}
 
-abbrev pub pull_after_state : Addr → Option (List ℕ) → State → Outgoing
-pull_after_state to after s =
+abbrev pub own_packet_state : Addr → Body → State → Outgoing
+own_packet_state to body s =
     let version = version_sent s.membership.config in
-    with_claims to version s.membership.own.name (Pull after) (own_told version (own_record s.membership.own))
+    with_claims to version s.membership.own.name body (own_told version (own_record s.membership.own))
+
+abbrev pub pull_after_state : Addr → Option (List ℕ) → State → Outgoing
+pull_after_state to after s = own_packet_state to (Pull after) s
 
 abbrev pub page_behind_state : Addr → Option (List ℕ) → State → Outgoing
 page_behind_state to after s =

@@ -26,7 +26,7 @@ use Rattle.lg_membership.specs.declared.origin.Origin.{Origin}
 use Rattle.lg_membership.specs.Meaning.Gossip.{version_sent}
 use Rattle.lg_membership.specs.Support.State as group
 use Rattle.lg_membership.specs.Support.State.{GroupState, apply_to_group, group_state_of, open_group}
-use Rattle.lg_membership.specs.Support.State.{send_from_group}
+use Rattle.lg_membership.specs.Support.State.{leave_group, send_from_group}
 use Rattle.lg_detector.specs.Meaning.Log.{Log, event_count, moment, group_log}
 use Rattle.lg_detector.specs.Meaning.Probing as probing
 use Rattle.lg_detector.specs.Meaning.Probing.{asked_about, first_number, first_word, indirect_in, helpers_of}
@@ -116,9 +116,15 @@ abbrev pub apply_all_state : Origin → List Claim → State → State
 apply_all_state origin [] s = s
 apply_all_state origin (c ∷ cs) s = apply_all_state origin cs (apply_state origin c s)
 
--- A round starts: the order chooses, and the timers of the round are set anew.
+-- A round starts: the order chooses, unless this member left, and the timers of the round are set anew.
+abbrev pub choice_unless : Bool → ℕ → OrderValue → Option (List ℕ)
+choice_unless has_left word order = if has_left then None else choice order.names order.chosen word
+
+abbrev pub chose_unless : Bool → ℕ → OrderValue → OrderValue
+chose_unless has_left word order = if has_left then order else order_with order (Chose word)
+
 abbrev pub chosen_state : List ℕ → State → Option (List ℕ)
-chosen_state words s = choice s.order.names s.order.chosen (first_word words)
+chosen_state words s = choice_unless s.membership.own.left (first_word words) s.order
 
 abbrev pub with_start : ℕ → List Timer → List Timer
 with_start deadline timers =
@@ -156,7 +162,8 @@ start_probe target s = record s {
 
 abbrev pub start_round : List ℕ → State → State
 start_round words s =
-    start_probe (chosen_state words s) (record s { order = order_with s.order (Chose (first_word words)) })
+    start_probe (chosen_state words s)
+    (record s { order = chose_unless s.membership.own.left (first_word words) s.order })
 
 -- helpers are asked
 abbrev pub helpers_state : List ℕ → State → List (List ℕ)
@@ -181,6 +188,17 @@ end_round s = record s {
   score = marked_end s.round s.score;
   round = None;
   timers = with_start s.moment s.timers;
+}
+
+-- This member leaves: the probe that runs is dropped.
+abbrev pub without_probe : Bool → ℕ → List Timer → List Timer
+without_probe probes later timers = if probes then with_start later timers else timers
+
+unfoldable pub depart : State → State
+depart s = record s {
+  round = None;
+  timers = without_probe (is_some s.round) (interval_later_state s) s.timers;
+  membership = leave_group s.membership;
 }
 
 -- a relay sends its Nack, and stays open; or it is closed

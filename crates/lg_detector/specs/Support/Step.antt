@@ -6,7 +6,7 @@ use Rattle.lg_rules.specs.Meaning.View.{changed}
 use Rattle.lg_timers.specs.declared.timer.Timer.{Timer}
 use Rattle.lg_membership.specs.Support.State as group
 use Rattle.lg_detector.specs.declared.event.Event.{Event}
-use Rattle.lg_detector.specs.declared.event.Event.TheVariants.{Open, Tick, Heard, Ask, Health, Pull}
+use Rattle.lg_detector.specs.declared.event.Event.TheVariants.{Open, Tick, Heard, Ask, Health, Pull, Leave}
 use Rattle.lg_detector.specs.declared.reply.Answer.{Answer}
 use Rattle.lg_detector.specs.declared.reply.Outgoing.{Outgoing}
 use Rattle.lg_detector.specs.declared.reply.Reply.{Reply}
@@ -18,6 +18,7 @@ use Rattle.lg_detector.specs.Support.Hear.{hear_claims_state, hear_state, sends_
 use Rattle.lg_detector.specs.Support.Tick.{due_state, tick_state, sends_at_state}
 use Rattle.lg_detector.specs.Support.Ask.{ask_state, status_state, health_state}
 use Rattle.lg_detector.specs.Support.Joining.{pull_state, pulls_state}
+use Rattle.lg_detector.specs.Support.Leave.{leave_state, leave_sends_state}
 
 -- the state after a list of events, the earliest first
 abbrev pub state_after : List Event → State
@@ -42,6 +43,7 @@ happen_state s (Tick now words) = tick_state now words s
 happen_state s (Ask now name) = ask_state now s
 happen_state s (Health now) = ask_state now s
 happen_state s (Pull now peer) = pull_state now s
+happen_state s (Leave now words) = leave_state now s
 
 abbrev pub advance : State → Event → State
 advance s e = end_event (happen_state s e)
@@ -60,11 +62,13 @@ sends_by_state s (Heard now source packet) =
     sends_to_state source packet (hear_claims_state now packet s)
 sends_by_state s (Tick now words) = sends_at_state now words s
 sends_by_state s (Pull now peer) = pulls_state now peer s
+sends_by_state s (Leave now words) = leave_sends_state now words s
 sends_by_state s _ = []
 
 abbrev pub changed_by_state : State → Event → List Claim
 changed_by_state s (Heard now source packet) = changed (view_state s) (view_state (hear_claims_state now packet s))
 changed_by_state s (Tick now words) = changed (view_state s) (view_state (tick_state now words s))
+changed_by_state s (Leave now words) = changed (view_state s) (view_state (leave_state now s))
 changed_by_state s _ = []
 
 abbrev pub answer_by_state : State → Event → Option Answer

@@ -69,7 +69,7 @@ fn reorder(order: &mut Order, member: &Name, presence: Presence)
 }
 
 /// Puts a record that a claim changed, if it changed one, among those that other claims changed.
-fn put_changed(differing: &mut ArrayVec<Record, MAX_CHANGED>, changed: Option<Record>)
+pub(super) fn put_changed(differing: &mut ArrayVec<Record, MAX_CHANGED>, changed: Option<Record>)
     requires room { array_vec_len differing.old < MAX_CHANGED }
     requires rises { Rises name_cmp (map name_of differing.old.items) }
     ensures { differing.new.items ≡ with_found changed differing.old.items }

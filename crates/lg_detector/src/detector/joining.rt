@@ -8,8 +8,8 @@
 //! Tested in: `lg_detector_tests/src/detector/joining.rt`.
 ghost use Rattle.std.specs.Prelude.{◌≡◌, ◌<◌, [], ◌∷◌, None};
 ghost use Rattle.lg_detector.specs.Meaning.Joining.{last_of_full};
-ghost use Rattle.lg_detector.specs.Support.Joining.{next_pull_state, page_behind_state, pull_state, pull_after_state};
-ghost use Rattle.lg_detector.specs.Support.Joining.{pulls_state};
+ghost use Rattle.lg_detector.specs.Support.Joining.{next_pull_state, own_packet_state, page_behind_state, pull_state};
+ghost use Rattle.lg_detector.specs.Support.Joining.{pull_after_state, pulls_state};
 
 use super::{Detector, MAX_EVENTS};
 use crate::reply::{Outgoing, Reply};
@@ -63,7 +63,7 @@ impl Detector {
         ensures { sends.new.items ≡ pull_after_state to after self.now ∷ [] }
     {
         make_slots(&mut sends.slots, 1);
-        self.write_pull(to, after, &mut sends.slots[0]);
+        self.write_own(to, Body::Pull { after }, &mut sends.slots[0]);
         sends.count = 1;
     }
 
@@ -81,17 +81,17 @@ impl Detector {
             .put_page(after.as_ref(), &mut place.packet.claims);
     }
 
-    /// Overwrites a packet with a Pull, whose only claim is this member's record. It has none if its version can't tell
+    /// Overwrites a packet with one whose only claim is this member's record. It has none if its version can't tell
     /// this member's address.
-    fn write_pull(&self, to: Addr, after: Option<Name>, place: &mut Outgoing)
-        ensures { place.new ≡ pull_after_state to after self.now }
+    pub(super) fn write_own(&self, to: Addr, body: Body, place: &mut Outgoing)
+        ensures { place.new ≡ own_packet_state to body self.now }
     {
         let version = self.version();
         place.to = to;
         place.packet.version = version;
         place.packet.group = None;
         place.packet.sender = self.name();
-        place.packet.body = Body::Pull { after };
+        place.packet.body = body;
         let claims = &mut place.packet.claims;
         claims.clear();
         // Taken apart, since the checker doesn't follow a whole record into a generic call.

@@ -23,7 +23,7 @@ ghost use Rattle.lg_detector.specs.Meaning.Probing.{asked_about, indirect_in};
 ghost use Rattle.lg_detector.specs.Meaning.Tick.{ping_at, ping_to, request_to, requests, requests_of};
 ghost use Rattle.lg_detector.specs.Meaning.Tick.{failure_of, suspect_of, accusation, found};
 ghost use Rattle.lg_detector.specs.Support.State.{start_round, ask_helpers, end_round, chosen_state, helpers_state};
-ghost use Rattle.lg_detector.specs.Support.State.{with_start};
+ghost use Rattle.lg_detector.specs.Support.State.{choice_unless, chose_unless, with_start};
 ghost use Rattle.lg_detector.specs.Support.State.{with_round, round_of_choice, number_after};
 ghost use Rattle.lg_detector.specs.Support.State.{with_probe, marked_end, marked_ack, without_direct};
 ghost use Rattle.lg_detector.specs.Support.Send.{packets_state, send_all_state};
@@ -35,13 +35,13 @@ use crate::message::Message;
 use crate::reply::MAX_SENDS;
 use crate::sends::{Sends, make_slots};
 use lg_packet::Body;
-use lg_probe::{Helpers, MAX_HELPERS, Round};
+use lg_probe::{Helpers, MAX_HELPERS, Order, Round};
 use lg_rules::{Claim, Name, Record, Status};
 use lg_timers::{MAX_TIMERS, Timer, TimerId, Timers};
 use lg_timing::{Config, MAX_SCALED_MS, Score};
 
 /// The interval (protocol period), scaled by the score, in milliseconds.
-fn scaled_interval(score: &Score, config: Option<&Config>) -> u64
+pub(super) fn scaled_interval(score: &Score, config: Option<&Config>) -> u64
     requires { IsGood (option_copied config) }
     ensures interval { result ≡ scaled_interval (option_copied config.entry) score.now }
     ensures within { result ≤ MAX_SCALED_MS }
@@ -77,7 +77,7 @@ fn indirect(config: Option<&Config>) -> usize
 }
 
 /// Sets the timers for a time in which nobody is probed: the next round starts at this moment.
-fn set_start(timers: &mut Timers, deadline: u64)
+pub(super) fn set_start(timers: &mut Timers, deadline: u64)
     requires { length timers.old < MAX_TIMERS }
     ensures { timers.new ≡ with_start deadline timers.old }
 {
@@ -232,6 +232,14 @@ fn accusation(me: &Name, current: &Record) -> Option<Claim>
     }
 }
 
+/// Lets the order choose by a word. A member that has left chooses nobody.
+fn choose_unless(has_left: bool, order: &mut Order, word: u32) -> Option<Name>
+    ensures order { order.new ≡ chose_unless has_left word order.old }
+    ensures chosen { result ≡ choice_unless has_left word order.old }
+{
+    if has_left { None } else { order.choose(word) }
+}
+
 impl Detector {
     /// The claim that the end of the round makes if no Ack counted: its target is suspected.
     pub(super) fn failure(&self) -> Option<Claim>
@@ -266,7 +274,7 @@ impl Detector {
         ping(number, &self.record_of(&target))
     }
 
-    /// Lets the order choose, and sets the timers of the round anew.
+    /// Lets the order choose, unless this member has left, and sets the timers of the round anew.
     fn choose(&mut self, words: &[u32; 8]) -> Option<Name>
         requires { self.old.number ≤ self.old.events }
         ensures state { self.new ≡ start_round words.now self.old }
@@ -277,7 +285,8 @@ impl Detector {
         let config = parts.membership.config();
         let end = now + scaled_interval(&parts.score, config);
         let direct = now + scaled_timeout(&parts.score, config);
-        let chosen = parts.order.choose(words[0]);
+        let has_left = parts.membership.has_left();
+        let chosen = choose_unless(has_left, &mut parts.order, words[0]);
         parts.round = new_round(parts.number, &chosen);
         parts.number = number_after(parts.number, &chosen);
         set_round(&mut parts.timers, &chosen, end, direct);

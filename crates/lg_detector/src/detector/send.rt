@@ -5,7 +5,7 @@
 //! also one that answers a packet of another version, and no group (this project's choice).
 //!
 //! Defined in: `specs/Meaning/Send.antt`, `specs/Support/Send.antt`.
-//! Tested in: `lg_detector_tests/src/detector/hear.rt`.
+//! Tested in: `lg_detector_tests/src/detector/sending.rt`.
 ghost use Rattle.std.specs.Prelude.{◌≡◌, []};
 ghost use Rattle.std.specs.Option.{option_to_list};
 ghost use Rattle.lg_membership.specs.Meaning.Gossip.{version_sent};

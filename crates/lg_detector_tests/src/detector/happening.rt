@@ -94,6 +94,10 @@ pub(crate) enum Happens<'a> {
     Pull(u64),
     /// The member at a port is asked for its table.
     PullAt(u64, u16),
+    /// b leaves, by words that are all 0.
+    Leave(u64),
+    /// b leaves, by these words.
+    LeaveBy(u64, [u32; 8]),
 }
 
 /// An Ack, for a receiver if one is given.
@@ -252,6 +256,14 @@ fn pulled(now: u64, port: u16) -> Event {
     }
 }
 
+/// b leaves, by these words.
+fn left(now: u64, words: [u32; 8]) -> Event {
+    Event::Leave {
+        now: at(now),
+        words,
+    }
+}
+
 /// What happens, as an event.
 pub(super) fn event_of(happens: &Happens<'_>) -> Event {
     match happens {
@@ -284,5 +296,7 @@ pub(super) fn event_of(happens: &Happens<'_>) -> Event {
         Happens::Health(now) => Event::Health { now: at(*now) },
         Happens::Pull(now) => pulled(*now, 7002),
         Happens::PullAt(now, port) => pulled(*now, *port),
+        Happens::Leave(now) => left(*now, [0; 8]),
+        Happens::LeaveBy(now, words) => left(*now, *words),
     }
 }

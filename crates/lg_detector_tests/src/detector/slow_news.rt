@@ -81,6 +81,7 @@ fn moment_of(event: &Event) -> u64 {
         Event::Ask { now, .. } => now,
         Event::Health { now } => now,
         Event::Pull { now, .. } => now,
+        Event::Leave { now, .. } => now,
     };
     now.milliseconds()
 }

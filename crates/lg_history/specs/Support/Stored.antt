@@ -1,10 +1,10 @@
 -- What a stored event or reply stands for.
 use Rattle.std.specs.Prelude.{ℕ}
 use Rattle.lg_detector.specs.declared.event.Event.{Event}
-use Rattle.lg_detector.specs.declared.event.Event.TheVariants.{Open, Tick, Heard, Ask, Health, Pull}
+use Rattle.lg_detector.specs.declared.event.Event.TheVariants.{Open, Tick, Heard, Ask, Health, Pull, Leave}
 use Rattle.lg_detector.specs.declared.reply.Reply.{Reply}
 use Rattle.lg_history.specs.declared.event.Content.{Content}
-use Rattle.lg_history.specs.declared.event.Content.TheVariants.{Opens, Ticks, Hears, Asks, AsksHealth, Pulls}
+use Rattle.lg_history.specs.declared.event.Content.TheVariants.{Opens, Ticks, Hears, Asks, AsksHealth, Pulls, Leaves}
 use Rattle.lg_history.specs.declared.reply.Form.{Form}
 use Rattle.lg_history.specs.declared.reply.Form.TheVariants.{Exact, Whole}
 
@@ -16,6 +16,7 @@ event_in now (Hears hearing) = Heard now hearing.value.source hearing.value.pack
 event_in now (Asks name) = Ask now name.value
 event_in now AsksHealth = Health now
 event_in now (Pulls peer) = Pull now peer
+event_in now (Leaves words) = Leave now words.value
 
 -- the reply, however it is stored
 abbrev pub reply_in : Form → Reply

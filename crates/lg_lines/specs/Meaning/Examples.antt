@@ -11,10 +11,10 @@ use Rattle.lg_timers.specs.declared.timer.TimerId.{TimerId}
 use Rattle.lg_timers.specs.declared.timer.TimerId.TheVariants.{RoundEnd, Suspicion, Direct}
 use Rattle.lg_timers.specs.declared.timer.TimerId.TheVariants.{RelayNack, RelayEnd, RoundStart}
 use Rattle.lg_packet.specs.declared.packet.Body.{Body}
-use Rattle.lg_packet.specs.declared.packet.Body.TheVariants.{Ping, PingReq, Ack, Nack}
+use Rattle.lg_packet.specs.declared.packet.Body.TheVariants.{Ping, PingReq, Ack, Nack, Page}
 use Rattle.lg_rules.specs.declared.version.Version.TheVariants.{One}
 use Rattle.lg_packet.specs.Meaning.Spelling.{spelling}
-use Rattle.lg_detector.specs.declared.event.Event.TheVariants.{Ask, Health}
+use Rattle.lg_detector.specs.declared.event.Event.TheVariants.{Ask, Health, Leave}
 use Rattle.lg_detector.specs.declared.reply.Answer.TheVariants.{Status as OfStatus, Health as OfHealth}
 use Rattle.lg_detector.specs.declared.reply.Outgoing.{Outgoing}
 use Rattle.lg_detector.specs.declared.reply.Reply.{Reply}
@@ -177,6 +177,22 @@ knows_a_suspect : reply_text (Ask 5 (b ∷ [])) 1
     ≡ lines (codes "answer b suspect 3 127.0.0.1:7002 by a" ∷ codes "next 500" ∷ [])
 unfolding by_computing
 knows_a_suspect = refl
+
+-- A leave fires nothing. A packet of version 1 tells its record, which is Left, as Failed.
+tells_its_leave : reply_text (Leave 10 (1 ∷ 7 ∷ 0 ∷ 0 ∷ 0 ∷ 0 ∷ 0 ∷ 0 ∷ [])) 3
+    (record (sends (sent b 7001 Page (claimed b 7002 Left 0 ∷ [])) 1010) {
+      changed = record { items = claimed b 7002 Left 0 ∷ [] };
+    })
+    ≡ lines (codes "send 3 127.0.0.1:7001 534c01060162010301627f0000011b5a00000000"
+    ∷ codes "record b left 0 127.0.0.1:7002"
+    ∷ codes "next 1010" ∷ [])
+unfolding by_computing
+tells_its_leave = refl
+
+leaves_again : reply_text (Leave 30 (0 ∷ 0 ∷ 0 ∷ 0 ∷ 0 ∷ 0 ∷ 0 ∷ 0 ∷ [])) 4 (nothing 1010)
+    ≡ lines (codes "next 1010" ∷ [])
+unfolding by_computing
+leaves_again = refl
 
 -- the packets of an event are numbered one after another
 asks_two_helpers : reply_text (ticks 500) 9

@@ -9,7 +9,7 @@ use Rattle.lg_timers.specs.declared.timer.TimerId.TheVariants.{RelayNack, RelayE
 use Rattle.lg_packet.specs.Meaning.Spelling.{spelling}
 use Rattle.lg_packet.specs.declared.packet.Packet.{Packet}
 use Rattle.lg_detector.specs.declared.event.Event.{Event}
-use Rattle.lg_detector.specs.declared.event.Event.TheVariants.{Open, Tick, Heard, Ask, Health, Pull}
+use Rattle.lg_detector.specs.declared.event.Event.TheVariants.{Open, Tick, Heard, Ask, Health, Pull, Leave}
 use Rattle.lg_detector.specs.declared.reply.Answer.{Answer}
 use Rattle.lg_detector.specs.declared.reply.Answer.TheVariants.{Status as OfStatus, Health as OfHealth}
 use Rattle.lg_detector.specs.declared.reply.Outgoing.{Outgoing}
@@ -51,6 +51,7 @@ fired_text (Heard now source packet) fired = []
 fired_text (Ask now name) fired = []
 fired_text (Health now) fired = []
 fired_text (Pull now peer) fired = []
+fired_text (Leave now words) fired = []
 
 -- the health score, this member's incarnation, and how many members aren't gone
 abbrev pub health_text : ℕ → ℕ → ℕ → List ℕ

@@ -1,6 +1,6 @@
 -- What a loop does, turn by turn, and how it ends.
 use Rattle.std.specs.Prelude.{◌≡◌, ◌==◌, ◌⊎◌, ℕ, ◌+◌, ◌*◌, ◌<◌, ◌≤◌}
-use Rattle.std.specs.Prelude.{Bool, true, false, nat_lt, if◌then◌else◌}
+use Rattle.std.specs.Prelude.{Bool, true, false, if◌then◌else◌}
 use Rattle.std.specs.Prelude.{List, [], ◌∷◌, ◌++◌, length, All, Option, Some, None, Ok, Err}
 use Rattle.std.specs.List.{flat_map, sum_by}
 use Rattle.lg_rules.specs.declared.addr.Addr.{Addr}
@@ -31,14 +31,18 @@ use Rattle.lg_loops.specs.Meaning.Links.LinkEvent.{Received, Silent, Failed}
 -- - there was a tick at a moment with random words, with this receipt, and these of the reply's packets were sent;
 -- - the call for it was refused, or the look at the next deadline was.
 -- A turn in which the ticking loop finds its group:
--- - a seed at an address was asked at a moment for its table, with this receipt, and these of the reply's packets were
---   sent; or the call for it was refused;
+-- - a seed at an address, which waited for it, was asked at a moment for its table, with this receipt, and these of the
+--   reply's packets were sent; or the call for it was refused;
+-- - a seed at an address was asked so since it was its turn; or the call for it was refused;
 -- - there was a look at the members at a moment, which answered from these events, and then the seeds were to be asked
 --   or not; or that look was refused;
 -- - a member at an address was asked at a moment for its table. Random words had chosen it among the members of a look,
 --   which answered from these events. The receipt and the packets sent are as above. Or the call for it was refused;
 -- - a member was to be asked at a moment, and a look that answered from these events showed no other; or that look was
 --   refused.
+-- A turn of a ticking loop that is to stop, if this member leaves its group then:
+-- - this member left at a moment, by random words, with this receipt, and these of the reply's packets were sent;
+-- - the call for it was refused.
 -- A turn of asking:
 -- - a member at an address was asked at a moment for its table, with this receipt, and these of the reply's packets
 --   were sent.
@@ -54,12 +58,16 @@ pub data Turn : Type 0 where
   Unseen : Refusal → Turn
   AskedSeed : ℕ → Addr → Receipt → List Bool → Turn
   UnaskedSeed : ℕ → Addr → Refusal → Turn
+  AskedInTurn : ℕ → Addr → Receipt → List Bool → Turn
+  UnaskedInTurn : ℕ → Addr → Refusal → Turn
   Looked : ℕ → List Event → Bool → Turn
   Unlooked : ℕ → Turn
   AskedMember : ℕ → List ℕ → List Event → Addr → Receipt → List Bool → Turn
   UnaskedMember : ℕ → List ℕ → List Event → Addr → Refusal → Turn
   FoundNobody : ℕ → List Event → Turn
   Unfound : ℕ → Turn
+  Departed : ℕ → List ℕ → Receipt → List Bool → Turn
+  Undeparted : ℕ → List ℕ → Refusal → Turn
   Pulled : ℕ → Addr → Receipt → List Bool → Turn
 
 -- a turn of receiving, which waits for a datagram at most so many milliseconds
@@ -71,21 +79,25 @@ receives wait (Heard now source bytes p r sent) = true
 receives wait (Unheard now source bytes e) = true
 receives wait _ = false
 
--- a turn of ticking, at a moment before this one
-abbrev pub ticks_before : ℕ → Turn → Bool
-ticks_before until (Paused now) = nat_lt now until
-ticks_before until (Ticked now words r sent) = nat_lt now until
-ticks_before until (Unticked now words e) = nat_lt now until
-ticks_before until (Unseen e) = true
-ticks_before until (AskedSeed now peer r sent) = nat_lt now until
-ticks_before until (UnaskedSeed now peer e) = nat_lt now until
-ticks_before until (Looked now seen asks) = nat_lt now until
-ticks_before until (Unlooked now) = nat_lt now until
-ticks_before until (AskedMember now words seen peer r sent) = nat_lt now until
-ticks_before until (UnaskedMember now words seen peer e) = nat_lt now until
-ticks_before until (FoundNobody now seen) = nat_lt now until
-ticks_before until (Unfound now) = nat_lt now until
-ticks_before until _ = false
+-- a turn of the ticking loop
+abbrev pub is_of_ticking : Turn → Bool
+is_of_ticking (Paused now) = true
+is_of_ticking (Ticked now words r sent) = true
+is_of_ticking (Unticked now words e) = true
+is_of_ticking (Unseen e) = true
+is_of_ticking (AskedSeed now peer r sent) = true
+is_of_ticking (UnaskedSeed now peer e) = true
+is_of_ticking (AskedInTurn now peer r sent) = true
+is_of_ticking (UnaskedInTurn now peer e) = true
+is_of_ticking (Looked now seen asks) = true
+is_of_ticking (Unlooked now) = true
+is_of_ticking (AskedMember now words seen peer r sent) = true
+is_of_ticking (UnaskedMember now words seen peer e) = true
+is_of_ticking (FoundNobody now seen) = true
+is_of_ticking (Unfound now) = true
+is_of_ticking (Departed now words r sent) = true
+is_of_ticking (Undeparted now words e) = true
+is_of_ticking _ = false
 
 -- a turn of asking
 abbrev pub is_pull : Turn → Bool
@@ -102,7 +114,9 @@ deeds (Heard now source bytes p r sent) = Received source bytes ∷ handed r.rep
 deeds (Unheard now source bytes e) = Received source bytes ∷ []
 deeds (Ticked now words r sent) = handed r.reply.sends.items sent
 deeds (AskedSeed now peer r sent) = handed r.reply.sends.items sent
+deeds (AskedInTurn now peer r sent) = handed r.reply.sends.items sent
 deeds (AskedMember now words seen peer r sent) = handed r.reply.sends.items sent
+deeds (Departed now words r sent) = handed r.reply.sends.items sent
 deeds (Pulled now peer r sent) = handed r.reply.sends.items sent
 deeds _ = []
 
@@ -115,7 +129,9 @@ abbrev pub losses : Turn → ℕ
 losses (Heard now source bytes p r sent) = lost sent
 losses (Ticked now words r sent) = lost sent
 losses (AskedSeed now peer r sent) = lost sent
+losses (AskedInTurn now peer r sent) = lost sent
 losses (AskedMember now words seen peer r sent) = lost sent
+losses (Departed now words r sent) = lost sent
 losses (Pulled now peer r sent) = lost sent
 losses _ = 0
 
@@ -123,12 +139,14 @@ abbrev pub breaks : Turn → ℕ
 breaks Broken = 1
 breaks t = losses t
 
--- the random words of a tick, or of the choice of a member
+-- the random words of a tick, of the choice of a member, or of a leave
 abbrev pub words_in : Turn → List (List ℕ)
 words_in (Ticked now words r sent) = words ∷ []
 words_in (Unticked now words e) = words ∷ []
 words_in (AskedMember now words seen peer r sent) = words ∷ []
 words_in (UnaskedMember now words seen peer e) = words ∷ []
+words_in (Departed now words r sent) = words ∷ []
+words_in (Undeparted now words e) = words ∷ []
 words_in _ = []
 
 -- the address that was asked
@@ -171,8 +189,9 @@ abbrev pub MadeNoCall : PassValue → PassValue → Type 0
 MadeNoCall p q = (q ≡ p) ⊎ IsRotatedPass p q
 
 -- What a turn does with the pass. If a datagram is a packet, it is heard. If the next deadline has come, there is a
--- tick, and only otherwise the loop looks at the members or asks one of them. Each packet of the reply was sent or not.
--- A call counts once, even if it was refused because the history was full and was made again after a rotation.
+-- tick, and only otherwise the loop looks at the members or asks one of them. A member leaves whatever is due. Each
+-- packet of the reply was sent or not. A call counts once, even if it was refused because the history was full and was
+-- made again after a rotation.
 abbrev pub IsTurn : PassValue → Turn → PassValue → Type 0
 IsTurn p (Quiet limit) q = q ≡ p
 IsTurn p Broken q = q ≡ p
@@ -192,6 +211,11 @@ IsTurn p (AskedSeed now peer r sent) q =
     × (length sent ≡ length r.reply.sends.items)
 IsTurn p (UnaskedSeed now peer e) q =
     (m : PassValue) × SeesNoneDue p now m × MadeNoCall m q × IsRefusal m.seen e
+IsTurn p (AskedInTurn now peer r sent) q =
+    (m : PassValue) × SeesNoneDue p now m × IsCall m (events.Pull now peer) r q
+    × (length sent ≡ length r.reply.sends.items)
+IsTurn p (UnaskedInTurn now peer e) q =
+    (m : PassValue) × SeesNoneDue p now m × MadeNoCall m q × IsRefusal m.seen e
 IsTurn p (Looked now seen asks) q = SeesMembers p now seen q
 IsTurn p (Unlooked now) q = SeesNoneDue p now q
 IsTurn p (AskedMember now words seen peer r sent) q =
@@ -201,6 +225,9 @@ IsTurn p (UnaskedMember now words seen peer e) q =
     (m : PassValue) × SeesMembers p now seen m × MadeNoCall m q × IsRefusal m.seen e
 IsTurn p (FoundNobody now seen) q = SeesMembers p now seen q
 IsTurn p (Unfound now) q = SeesNoneDue p now q
+IsTurn p (Departed now words r sent) q =
+    IsCall p (events.Leave now words) r q × (length sent ≡ length r.reply.sends.items)
+IsTurn p (Undeparted now words e) q = MadeNoCall p q × IsRefusal p.seen e
 IsTurn p (Pulled now peer r sent) q =
     IsCall p (events.Pull now peer) r q × (length sent ≡ length r.reply.sends.items)
 
@@ -209,7 +236,8 @@ abbrev pub Follows : PassValue → List Turn → PassValue → Type 0
 Follows p [] q = q ≡ p
 Follows p (t ∷ turns) q = (m : PassValue) × IsTurn p t m × Follows m turns q
 
--- why a turn ends the loop, if it does
+-- Why a turn ends the loop, if it does. A loop in which this member left is one that was stopped, even if the reply
+-- says that the member was ousted before.
 abbrev pub stops : Turn → Option Why
 stops Broken = Some LinkFailed
 stops (Heard now source bytes p r sent) = if r.reply.ousted then Some Ousted else None
@@ -219,8 +247,11 @@ stops (Unticked now words e) = Some (Refused e)
 stops (Unseen e) = Some (Refused e)
 stops (AskedSeed now peer r sent) = if r.reply.ousted then Some Ousted else None
 stops (UnaskedSeed now peer e) = Some (Refused e)
+stops (AskedInTurn now peer r sent) = if r.reply.ousted then Some Ousted else None
+stops (UnaskedInTurn now peer e) = Some (Refused e)
 stops (AskedMember now words seen peer r sent) = if r.reply.ousted then Some Ousted else None
 stops (UnaskedMember now words seen peer e) = Some (Refused e)
+stops (Undeparted now words e) = Some (Refused e)
 stops _ = None
 
 abbrev pub goes_on : Turn → Type 0
@@ -298,6 +329,12 @@ pub record Lasted
 abbrev pub unstarted : LoopEnd
 unstarted = record { why = Stopped; dropped = 0; unsent = 0; turns = 0 }
 
+-- A loop that made no turn: nothing changed.
+pub record MadeNoTurn (k k' : LinkValue) (p q : PassValue) (end : LoopEnd) : Type 0 where
+  pub same_link : k' ≡ k
+  pub same_pass : q ≡ p
+  pub ended : end ≡ unstarted
+
 -- A loop that no thread could be started for: it ran as a loop does, but its end says that memory was refused.
 pub record HadNoThread
     (kind : Turn → Bool) (tells : Bool) (bound : ℕ) (endless : Bool) (k k' : LinkValue) (p q : PassValue)
@@ -306,12 +343,3 @@ pub record HadNoThread
   pub was : Why
   pub ran : Lasted kind tells bound endless k k' p q (record end { why = was })
   pub why : end.why ≡ Refused NoMemory
-
--- How a receiving loop ran in a thread of its own, each of whose turns waits at most so many milliseconds, beside a
--- ticking loop that ended so. If no thread could be started for it, the ticking loop made no turn.
-abbrev pub Receiving :
-    (wait : ℕ) (tells : Bool) (bound : ℕ) (endless : Bool) (k k' : LinkValue) (p q : PassValue) (end ticked : LoopEnd)
-    → Type 0
-Receiving wait tells bound endless k k' p q end ticked =
-    Lasted (receives wait) tells bound endless k k' p q end
-    ⊎ (HadNoThread (receives wait) tells bound endless k k' p q end × (ticked ≡ unstarted))

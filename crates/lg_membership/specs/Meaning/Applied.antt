@@ -1,4 +1,4 @@
--- What applying a claim does, by the log before the claim and the log after it.
+-- What applying a claim does, by the log before the claim and the log after it; and what a leave does.
 use Rattle.std.specs.Prelude.{ℕ, ◌≡◌, ◌≢◌, Bool, true, false}
 use Rattle.std.specs.Prelude.{List, ◌∷◌, Option, Some, None, option_map}
 use Rattle.lg_rules.specs.declared.claim.Claim.{Claim}
@@ -14,7 +14,7 @@ use Rattle.lg_membership.specs.declared.applied.Deadline.TheVariants.{Stays, End
 use Rattle.lg_membership.specs.declared.applied.Presence.{Presence}
 use Rattle.lg_membership.specs.declared.applied.Presence.TheVariants.{Stays as Remains, Joins, Leaves}
 use Rattle.lg_membership.specs.declared.origin.Origin.{Origin}
-use Rattle.lg_membership.specs.Meaning.Log.{GroupLog, Said, own, group_view, live_others}
+use Rattle.lg_membership.specs.Meaning.Log.{GroupLog, Said, Departed, me, own, group_view, live_others}
 use Rattle.lg_membership.specs.Meaning.Suspicions.{SuspectedValue, suspicions, suspected_name}
 
 -- The record of a member, which may be this member itself. Before the opening nobody has one.
@@ -67,3 +67,7 @@ pub record IsApplied (now : ℕ) (origin : Origin) (c : Claim) (log : GroupLog) 
       IsDeadlineChange (suspicion_in log c.name) (suspicion_in after c.name) applied.deadline)
   pub presence : (let after = Said now origin c ∷ log in
       applied.presence ≡ presence_of (is_live log c.name) (is_live after c.name))
+
+-- What a leave returns, if it comes after this log: this member's own record, if the leave changes that.
+abbrev pub IsLeave : GroupLog → Option Claim → Type 0
+IsLeave log changed = IsRecordChange (record_in log (me log)) (record_in (Departed ∷ log) (me log)) changed

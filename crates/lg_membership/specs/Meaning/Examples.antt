@@ -180,7 +180,7 @@ a_joins_again = refl
 abbrev refuted : GroupLog
 refuted = says 0 (on b (accused_by c) 0) ∷ says 0 (on b (accused_by a) 0) ∷ opened ∷ []
 
-own_number : own refuted ≡ record { name = b ∷ []; addr = here; number = 1; ousted = false }
+own_number : own refuted ≡ record { name = b ∷ []; addr = here; number = 1; ousted = false; left = false }
 unfolding own_of
 own_number = refl
 
@@ -193,7 +193,8 @@ refutation_is_queued = refl
 abbrev raised_by_failing : GroupLog
 raised_by_failing = says 0 (on b Failed 0) ∷ says 0 (on b Failed 0) ∷ opened ∷ []
 
-number_after_failing : own raised_by_failing ≡ record { name = b ∷ []; addr = here; number = 1; ousted = false }
+number_after_failing :
+    own raised_by_failing ≡ record { name = b ∷ []; addr = here; number = 1; ousted = false; left = false }
 unfolding own_of
 number_after_failing = refl
 

@@ -12,7 +12,7 @@ use Rattle.lg_rules.specs.declared.own.OwnHeard.{OwnHeard}
 use Rattle.lg_rules.specs.declared.own.OwnHeard.TheVariants.{Refuted, Raised, Ousted, Ignored}
 use Rattle.lg_rules.specs.declared.version.Version.{Version}
 use Rattle.lg_rules.specs.declared.version.Version.TheVariants.{One, Two, Three}
-use Rattle.lg_rules.specs.Meaning.Own.{OwnValue, own_hearing, own_heard, own_of, own_record}
+use Rattle.lg_rules.specs.Meaning.Own.{OwnValue, own_hearing, own_heard, own_left, own_of, own_record}
 use Rattle.lg_timing.specs.declared.config.Config.{Config}
 use Rattle.lg_timing.specs.Meaning.Config.{version_of}
 use Rattle.lg_gossip.specs.declared.queued.Queued.{Queued}
@@ -22,7 +22,8 @@ use Rattle.lg_membership.specs.declared.addressee.Addressee.{Addressee}
 use Rattle.lg_membership.specs.declared.addressee.Addressee.TheVariants.{Anybody, Pinged, Acked}
 use Rattle.lg_membership.specs.declared.origin.Origin.{Origin}
 use Rattle.lg_membership.specs.declared.origin.Origin.TheVariants.{Seed, Group}
-use Rattle.lg_membership.specs.Meaning.Log.{GroupLog, Opened, Said, Sent, config, me, own, table, live, known}
+use Rattle.lg_membership.specs.Meaning.Log.{GroupLog, Opened, Said, Sent, Departed, config, me, own, table}
+use Rattle.lg_membership.specs.Meaning.Log.{live, known}
 use Rattle.lg_membership.specs.Meaning.Suspicions.{SuspectedValue, suspicions, confirms}
 
 -- how often a claim may be sent for each decimal digit of the number of members that aren't gone
@@ -60,9 +61,10 @@ abbrev pub doubts : OwnValue → Claim → Bool
 doubts oneself c =
     is_same name_cmp c.name oneself.name && (is_doubted c.status && nat_lt c.incarnation oneself.number)
 
--- Such a claim is answered in version 3, unless the queue still has this member's own record to send.
+-- Such a claim is answered in version 3, unless the queue still has this member's own record to send, or this member
+-- has left.
 abbrev pub answers_doubt : Version → Bool → OwnValue → Claim → Bool
-answers_doubt v waits oneself c = tells_news v && (doubts oneself c && not waits)
+answers_doubt v waits oneself c = tells_news v && (not oneself.left && (doubts oneself c && not waits))
 
 -- What a claim puts into the queue when it is said. A claim about another member puts itself there if it makes or
 -- replaces a record, or confirms a suspicion, unless the opening says it. A claim about this member puts this
@@ -94,6 +96,13 @@ put_by origin waits log c =
     then put_of_oneself (version_sent (config log)) waits (own log) c
     else put_of_other origin (table log) (suspicions log) c
 
+-- What a leave puts into the queue: this member's own record, which is Left then. A further leave puts nothing.
+abbrev pub put_if_leaves : Bool → OwnValue → Option Claim
+put_if_leaves has_left oneself = if has_left then None else Some (own_record oneself)
+
+abbrev pub put_of_leave : OwnValue → Option Claim
+put_of_leave oneself = put_if_leaves oneself.left (own_left oneself)
+
 -- What is queued about a member, once a claim is put or none: a claim about this member replaces what was queued. It
 -- begins with no sends, or with 200 if the version can't tell its address, so that no packet takes it.
 abbrev pub queued_by : Version → Option Claim → List ℕ → Option Queued → Option Queued
@@ -105,7 +114,7 @@ abbrev pub send_limit_after : GroupLog → ℕ
 send_limit_after log = limit_of (lambda_in (config log)) (live log)
 
 -- The claim about a member that is queued, with its sends. The opening puts one's own arrival, and a claim that is said
--- puts what is said above. Each packet that takes a claim about the member counts as one more send.
+-- and a leave put what is said above. Each packet that takes a claim about the member counts as one more send.
 unfoldable pub queued : GroupLog → List ℕ → Option Queued
 queued [] m = None
 queued (Opened opening ∷ log) m =
@@ -115,6 +124,7 @@ queued (Said now origin c ∷ log) m =
     let waits = is_below (send_limit_after log) (queued log (me log)) in
     queued_by (version_sent (config log)) (put_by origin waits log c) m (queued log m)
 queued (Sent taken ∷ log) m = option_map (sent_once taken) (queued log m)
+queued (Departed ∷ log) m = queued_by (version_sent (config log)) (put_of_leave (own log)) m (queued log m)
 
 -- whether the queue still has this member's own record to send
 abbrev pub own_waits : GroupLog → Bool

@@ -6,17 +6,19 @@ use Rattle.lg_rules.specs.declared.claim.Claim.{Claim}
 use Rattle.lg_rules.specs.Meaning.Claim.{is_gone, name_of}
 use Rattle.lg_rules.specs.Meaning.Rows.{name_cmp, put_key}
 use Rattle.lg_rules.specs.Meaning.Table.{roster, table_of, live_in}
-use Rattle.lg_rules.specs.Meaning.Own.{OwnValue, own_of, own_record}
+use Rattle.lg_rules.specs.Meaning.Own.{OwnValue, OwnFact, Told, TakesLeave, own_of, own_record, claims_told}
 use Rattle.lg_rules.specs.Meaning.View.{view_of}
 use Rattle.lg_timing.specs.declared.config.Config.{Config}
 use Rattle.lg_membership.specs.declared.origin.Origin.{Origin}
 
 -- A log says what happened, as facts with the latest first. The member was opened. Or a claim was said at a moment,
--- as a seed of the opening or by the group. Or a packet was sent that took these claims from the queue.
+-- as a seed of the opening or by the group. Or a packet was sent that took these claims from the queue. Or the member
+-- left its group.
 pub data GroupFact : Type 0 where
   Opened : Config → GroupFact
   Said : ℕ → Origin → Claim → GroupFact
   Sent : List Claim → GroupFact
+  Departed : GroupFact
 
 abbrev pub GroupLog : Type 0
 GroupLog = List GroupFact
@@ -27,12 +29,17 @@ config [] = None
 config (Opened opening ∷ log) = Some opening
 config (_ ∷ log) = config log
 
+-- what happened to this member since the opening, the latest first: claims were said, or it left
+abbrev pub own_facts : GroupLog → List OwnFact
+own_facts [] = []
+own_facts (Opened opening ∷ log) = []
+own_facts (Said now origin c ∷ log) = Told c ∷ own_facts log
+own_facts (Sent taken ∷ log) = own_facts log
+own_facts (Departed ∷ log) = TakesLeave ∷ own_facts log
+
 -- the claims said since the opening, the latest first
 abbrev pub said : GroupLog → List Claim
-said [] = []
-said (Opened opening ∷ log) = []
-said (Said now origin c ∷ log) = c ∷ said log
-said (Sent taken ∷ log) = said log
+said log = claims_told (own_facts log)
 
 -- This member's name and address. Before the opening these are placeholders.
 abbrev pub opening_name : Option Config → List ℕ
@@ -46,15 +53,15 @@ opening_addr (Some opening) = opening.addr
 abbrev pub me : GroupLog → List ℕ
 me log = opening_name (config log)
 
--- what this member knows of itself: its incarnation, and whether it was ousted
+-- what this member knows of itself: its incarnation, whether it was ousted, and whether it left
 abbrev pub own : GroupLog → OwnValue
-own log = own_of (me log) (opening_addr (config log)) (said log)
+own log = own_of (me log) (opening_addr (config log)) (own_facts log)
 
 -- the records of the others
 abbrev pub table : GroupLog → List Claim
 table log = table_of (me log) (said log)
 
--- how many members aren't gone, this member included (n)
+-- how many members aren't gone, this member included, even if it left (n)
 abbrev pub live : GroupLog → ℕ
 live log = live_in (table log)
 

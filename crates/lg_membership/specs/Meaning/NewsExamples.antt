@@ -70,7 +70,7 @@ arrival_is_sent = refl
 
 -- b is at incarnation 1. A claim doubts it if it says Suspect or Failed of b at 0.
 abbrev b_at_one : OwnValue
-b_at_one = record { name = b ∷ []; addr = here; number = 1; ousted = false }
+b_at_one = record { name = b ∷ []; addr = here; number = 1; ousted = false; left = false }
 
 suspect_doubts : doubts b_at_one (on b by_a 0) ≡ true
 suspect_doubts = refl

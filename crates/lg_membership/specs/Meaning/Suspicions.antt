@@ -13,7 +13,7 @@ use Rattle.lg_timing.specs.declared.config.Config.{Config}
 use Rattle.lg_timing.specs.Meaning.Timeouts.{range_of}
 use Rattle.lg_suspicion.specs.Meaning.Accusers.{SuspicionValue, suspicion_after, accuser_counts}
 use Rattle.lg_gossip.specs.Meaning.Queue.{is_suspect}
-use Rattle.lg_membership.specs.Meaning.Log.{GroupLog, Opened, Said, Sent, config, me, said, live}
+use Rattle.lg_membership.specs.Meaning.Log.{GroupLog, Opened, Said, Sent, Departed, config, me, said, live}
 
 -- a member that is suspected, and its suspicion
 pub record SuspectedValue : Type 0 where
@@ -35,6 +35,7 @@ raise_of m i (Opened opening ∷ log) = None
 raise_of m i (Said now origin c ∷ log) =
     or_else (raise_of m i log) (if accuses m i c then Some (Said now origin c ∷ log) else None)
 raise_of m i (Sent taken ∷ log) = raise_of m i log
+raise_of m i (Departed ∷ log) = raise_of m i log
 
 -- the moment at which the latest fact of that log was said
 abbrev pub said_at : GroupLog → ℕ

@@ -4,7 +4,7 @@ use Rattle.lg_rules.specs.declared.claim.Claim.{Claim}
 use Rattle.lg_rules.specs.declared.own.OwnHeard.{OwnHeard}
 use Rattle.lg_rules.specs.declared.version.Version.{Version}
 use Rattle.lg_rules.specs.Meaning.Claim.{name_of}
-use Rattle.lg_rules.specs.Meaning.Own.{OwnValue, own_of, own_hearing, own_heard}
+use Rattle.lg_rules.specs.Meaning.Own.{OwnValue, own_of, own_hearing, own_heard, own_left}
 use Rattle.lg_rules.specs.Meaning.Rows.{name_cmp, is_same, put_row}
 use Rattle.lg_rules.specs.Meaning.Table.{MembersValue, known_of, takes, heard, names_heard, live_in}
 use Rattle.lg_rules.specs.Support.Standing.{Standing}
@@ -19,7 +19,7 @@ use Rattle.lg_membership.specs.declared.origin.Origin.{Origin}
 use Rattle.lg_membership.specs.Meaning.Log.{GroupLog, config, me, said, own, live_names, view_in}
 use Rattle.lg_membership.specs.Meaning.Suspicions.{SuspectedValue, suspicions}
 use Rattle.lg_membership.specs.Meaning.Gossip.{version_sent, own_arrival, answers_doubt, put_of_own, put_of_oneself}
-use Rattle.lg_membership.specs.Meaning.Gossip.{put_of_other, queue, buddy_record}
+use Rattle.lg_membership.specs.Meaning.Gossip.{put_of_other, put_of_leave, queue, buddy_record}
 use Rattle.lg_membership.specs.Meaning.Applied.{is_refuted}
 use Rattle.lg_membership.specs.Meaning.Pages.{is_in_page}
 use Rattle.lg_membership.specs.Support.Changes.{Change, change_of, suspicions_after, deadline_of_change, presence_heard}
@@ -155,6 +155,16 @@ applied_other now c s =
 
 unfoldable pub applied : ℕ → Claim → GroupState → Applied
 applied now c s = if is_same name_cmp c.name s.own.name then applied_own c s else applied_other now c s
+
+-- the state once this member left, and its own record if that changed
+abbrev pub leave_group : GroupState → GroupState
+leave_group s = record s {
+  own = own_left s.own;
+  queue = queue_with (put_of_leave s.own) s.queue;
+}
+
+abbrev pub changed_by_leave : GroupState → Option Claim
+changed_by_leave s = if_open s.config (put_of_leave s.own)
 
 -- the state once claims were applied, one after another
 abbrev pub apply_all_to_group : ℕ → Origin → List Claim → GroupState → GroupState

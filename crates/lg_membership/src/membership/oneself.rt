@@ -1,10 +1,10 @@
-//! What a claim about this member puts into the queue, and what the opening puts there.
+//! What a claim about this member puts into the queue, and what the opening and a leave put there.
 //!
 //! Defined in: `specs/Meaning/Gossip.antt`, `specs/Meaning/Applied.antt`.
 //! Tested in: `lg_detector_tests/src/membership/queue.rt`.
 ghost use Rattle.std.specs.Prelude.{◌≡◌};
 ghost use Rattle.lg_rules.specs.Support.Standing.{is_rise};
-ghost use Rattle.lg_membership.specs.Meaning.Gossip.{own_arrival, doubts, put_of_own, put_if_answered};
+ghost use Rattle.lg_membership.specs.Meaning.Gossip.{own_arrival, doubts, put_of_own, put_if_answered, put_if_leaves};
 ghost use Rattle.lg_membership.specs.Meaning.Applied.{is_refuted};
 ghost use Rattle.lg_membership.specs.Support.State.{is_answered};
 
@@ -60,6 +60,13 @@ pub(super) fn own_arrival(version: Version, own: &Own) -> Option<Claim>
     }
 }
 
+/// What a leave puts into the queue: this member's own record, unless it had left before.
+pub(super) fn put_if_leaves(has_left: bool, own: &Own) -> Option<Claim>
+    ensures { result ≡ put_if_leaves has_left own.now }
+{
+    if has_left { None } else { Some(own.record()) }
+}
+
 /// Whether a claim says that this member is Suspect or Failed at a smaller incarnation than its own.
 fn doubts(own: &Own, claim: &Claim) -> bool
     ensures { result ≡ doubts own.now claim.now }
@@ -71,11 +78,12 @@ fn doubts(own: &Own, claim: &Claim) -> bool
 
 impl Membership {
     /// Whether a claim doubts this member, and is to be answered: in version 3, unless the queue still has this
-    /// member's own record to send.
+    /// member's own record to send, or this member has left.
     pub(super) fn is_answered(&self, claim: &Claim) -> bool
         ensures { result ≡ is_answered claim.now self.now }
     {
         tells_news(self.version())
+            && !self.own.has_left()
             && doubts(&self.own, claim)
             && !self.queue.may_send(&self.own.name(), self.members.live())
     }

@@ -45,7 +45,7 @@ impl Membership {
         self.own.name()
     }
 
-    /// This member's own record: Alive at its incarnation and its address.
+    /// This member's own record, at its incarnation and its address: Alive, or Left if it has left.
     pub fn own_record(&self) -> Record
         ensures state { result ≡ own_record self.now.own }
         ensures log { (log : GroupLog) → self.now ≡ group_state_of log → result ≡ own_record (own log) }
@@ -69,7 +69,15 @@ impl Membership {
         self.own.ousted()
     }
 
-    /// How many members aren't gone, this member included: 1 to 256.
+    /// Whether this member left. Its name stays known, and it still counts as one that isn't gone.
+    pub fn has_left(&self) -> bool
+        ensures state { result ≡ self.now.own.left }
+        ensures log { (log : GroupLog) → self.now ≡ group_state_of log → result ≡ (own log).left }
+    {
+        self.own.has_left()
+    }
+
+    /// How many members aren't gone, this member included, even if it left: 1 to 256.
     pub fn live(&self) -> usize
         ensures count { result ≡ live_in self.now.members.table }
         ensures few { result ≤ MAX_MEMBERS }

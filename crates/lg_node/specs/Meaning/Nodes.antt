@@ -29,10 +29,11 @@ use Rattle.lg_node.specs.declared.node.NodeFault.TheVariants.{Socket, Status, Cl
 use Rattle.lg_node.specs.declared.node.Settings.{Settings}
 use Rattle.lg_loops.specs.declared.node_link.NodeLink.{NodeLink}
 use Rattle.lg_loops.specs.declared.shared.TheConstants.{MAX_TURNS}
-use Rattle.lg_loops.specs.Meaning.Turns.{line, LinkValue, Receiving}
+use Rattle.lg_loops.specs.Meaning.Turns.{line, LinkValue}
 use Rattle.lg_loops.specs.Meaning.Asking.{Asked}
 use Rattle.lg_loops.specs.Meaning.NodeLinks.{failures_of, link_keys}
-use Rattle.lg_loops.specs.Meaning.Pulling.{plan_of, Ticking}
+use Rattle.lg_loops.specs.Meaning.Pulling.{plan_of}
+use Rattle.lg_loops.specs.Meaning.BothLoops.{BothRan}
 use Rattle.lg_node.specs.Meaning.Starts.{hosts_of, stall_of, turn_wait, Shows}
 use Rattle.lg_loops.specs.Meaning.Words.{seeded, DrawsEight}
 
@@ -53,9 +54,10 @@ pub record AreLinks (settings : Settings) (hears sends : LinkValue) : Type 0 whe
   pub ticking_is : sends ≡ line [] (failures_of ticking)
   pub ticking_unfailed : failures_of ticking ≡ 0
 
--- One pass asked the seeds, and then both loops ran, each with a pass of its own. The ticking loop ran over the link
--- by which the seeds were asked. Each turn of receiving waited at most so many milliseconds. If no thread could be
--- started, the ticking loop made no turn.
+-- One pass asked the seeds, and then both loops ran, each with a pass of its own. The ticking loop ran over the link by
+-- which the seeds were asked. Each turn of receiving waited at most so many milliseconds. When the ticking loop was
+-- told to stop or its end time came, this member left its group if it writes its packets in version 3, and the loop
+-- went on for one interval. If no thread could be started, the ticking loop made no turn.
 pub record HasServed
     {D : Type 0} (throws : D → List ℕ → D → Type 0) (dice : D) (tells : Bool) (bound wait : ℕ) (config : Config)
     (pull_ms until start : ℕ) (hears hears' sends sends' : LinkValue) (received ticked : LoopEnd)
@@ -66,10 +68,9 @@ pub record HasServed
   pub unsent : ℕ
   pub later : ℕ
   pub asked : Asked tells config.seeds.items sends between (fresh_own config start 3) asker unsent
-  pub received_so : Receiving wait tells bound true hears hears' (fresh_own config start 1) receiver received
-      (record ticked { unsent = later })
-  pub ticked_so : Ticking throws dice (plan_of config pull_ms until) tells bound true between sends'
-      (fresh_own config start 2) ticker (record ticked { unsent = later })
+  pub ran : BothRan wait throws dice (plan_of config pull_ms until) tells bound true
+      hears hears' (fresh_own config start 1) receiver received
+      between sends' (fresh_own config start 2) ticker (record ticked { unsent = later })
   pub counted : later + unsent < 2 ^ 64 → ticked.unsent ≡ later + unsent
 
 -- What the pass that had asked the seeds did beside the loops. If the node was followed, it watched, and `held` and

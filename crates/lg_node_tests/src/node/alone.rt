@@ -7,7 +7,7 @@ use super::loops::{Noted, shared, ticks_until};
 use super::playing::{Play, Shown};
 use arrayvec::ArrayVec;
 use lg_agent::{AgentName, Pass, Spent};
-use lg_agent_testing::{Case, Left, Outcome, last_pass};
+use lg_agent_testing::{Case, Ending, Left, Outcome, last_pass};
 use lg_node::{Counters, Ended, LoopEnd, MAX_TURNS, Shared, Side, Why, receive_loop, tick_loop};
 use lg_testing::at;
 use std::alloc::Global;
@@ -35,6 +35,9 @@ pub struct Run {
     pub called_at: Option<u64>,
     /// The moment at which the loop begins.
     pub now: u64,
+    /// Whether the member leaves at the end of the ticking loop, and for how long that lingers then, in milliseconds.
+    pub leaves: bool,
+    pub lingers_ms: u64,
     /// What the link does.
     pub script: Script,
 }
@@ -46,6 +49,8 @@ impl Run {
             runs: Loop::Receiving,
             called_at: None,
             now: 0,
+            leaves: false,
+            lingers_ms: 0,
             script,
         }
     }
@@ -56,8 +61,17 @@ impl Run {
             runs: Loop::Ticking { until },
             called_at: None,
             now: 0,
+            leaves: false,
+            lingers_ms: 0,
             script: QUIET,
         }
+    }
+
+    /// The same, but the member leaves then, and the loop doesn't linger.
+    pub(super) fn leaving(until: u64) -> Run {
+        let mut run = Run::ticking(until);
+        run.leaves = true;
+        run
     }
 
     /// An agent of one place with this run.
@@ -114,21 +128,24 @@ pub struct LoopSeen {
 fn run_loop<'a, A: AgentName, R: Wait>(
     shared: &Shared<'_, R, MemoryClock>,
     side: Side<'_, MemoryLink<'a>, A>,
-    runs: Loop,
+    run: &Run,
 ) -> Ended<MemoryLink<'a>, A>
     requires { shared.now.bound ≤ MAX_TURNS }
 {
-    match runs {
+    match run.runs {
         Loop::Receiving => receive_loop(shared, side),
         Loop::Ticking { until } => {
             let dice = FixedDice { word: 0 };
-            tick_loop(shared, side, dice, &ticks_until(at(until)))
+            let mut plan = ticks_until(at(until));
+            plan.leaves = run.leaves;
+            plan.interval_ms = run.lingers_ms;
+            tick_loop(shared, side, dice, plan)
         }
     }
 }
 
 /// Makes the call before the loop, if there is one, and runs the loop with a pass.
-fn run_pass<A: AgentName, R: Wait>(
+pub(super) fn run_pass<A: AgentName, R: Wait>(
     rt: &R,
     alloc: Global,
     pass: Pass<'_, A>,
@@ -143,7 +160,7 @@ fn run_pass<A: AgentName, R: Wait>(
     let link = MemoryLink::new(run.script, &stop);
     let noted = Noted::new(false);
     let shared = shared(rt, alloc, &clock, &stop, &noted, BOUND, false);
-    let Ended { link, spent, end } = run_loop(&shared, Side { pass, link }, run.runs);
+    let Ended { link, spent, end } = run_loop(&shared, Side { pass, link }, &run);
     let seen = LoopSeen {
         end,
         counted: Counted::of(&noted.counters),
@@ -249,29 +266,32 @@ impl<'a> Want<'a> {
         }
     }
 
-    /// Whether an outcome is what it should be. Whatever the end, the others are told to stop.
+    /// Whether an outcome is what it should be.
     pub(super) fn is(&self, outcome: &Outcome<Shown>) -> bool {
+        match &outcome.seen {
+            Some(Shown::Loop(seen)) => self.is_met(seen, &outcome.ending),
+            _ => false,
+        }
+    }
+
+    /// Whether a loop did what it should, and its agent ended so. Whatever the end, the others are told to stop.
+    pub(super) fn is_met(&self, seen: &LoopSeen, ending: &Ending) -> bool {
         let end = LoopEnd {
             why: self.why,
             dropped: self.dropped,
             unsent: self.unsent,
             turns: self.turns,
         };
-        match &outcome.seen {
-            Some(Shown::Loop(seen)) => {
-                seen.end == end
-                    && seen.counted == self.counted()
-                    && seen.received == self.received
-                    && seen.failures == self.failures
-                    && seen.pauses == self.pauses
-                    && self.calls.are(seen.calls.as_slice())
-                    && seen.stop
-                    && outcome.ending.fault.is_none()
-                    && outcome.ending.entries == Some(self.entries)
-                    && outcome.ending.base == Some(self.base)
-                    && outcome.ending.replayed == Some(self.entries)
-            }
-            _ => false,
-        }
+        seen.end == end
+            && seen.counted == self.counted()
+            && seen.received == self.received
+            && seen.failures == self.failures
+            && seen.pauses == self.pauses
+            && self.calls.are(seen.calls.as_slice())
+            && seen.stop
+            && ending.fault.is_none()
+            && ending.entries == Some(self.entries)
+            && ending.base == Some(self.base)
+            && ending.replayed == Some(self.entries)
     }
 }

@@ -158,6 +158,7 @@ fn shared<'a, R, C>(
         alloc,
         clock,
         stop,
+        over: stop,
         page_heard: &noted.page_heard,
         counters: &noted.counters,
         changes: &noted.changes,

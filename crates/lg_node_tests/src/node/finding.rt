@@ -49,8 +49,7 @@ pub struct Search {
     others: u8,
     /// How many of them, from c on, have failed before it begins.
     failed: u8,
-    /// How long it is from one Pull for a member that the dice choose to the next, in milliseconds. With 0 there is
-    /// none.
+    /// How long it is at most from one asking for a table in turn to the next, in milliseconds. With 0 there is none.
     pull_ms: u64,
     dice: SteppingDice,
     /// A Page is heard once so many Pulls were handed over. With 0 it was heard before the loop.
@@ -62,7 +61,7 @@ pub struct Search {
     endless: bool,
 }
 
-/// A loop that knows c, d and e, has heard a Page, and chooses nobody.
+/// A loop that knows c, d and e, has heard a Page, and asks nobody in turn. Its interval is a second.
 const KNOWN: Search = Search {
     others: 3,
     failed: 0,
@@ -74,8 +73,8 @@ const KNOWN: Search = Search {
     endless: false,
 };
 
-/// The same, if it chooses a member every 700 ms by the word 0.
-const CHOOSING: Search = Search {
+/// The same, if it asks every 700 ms, and chooses members by the word 0.
+const ASKING: Search = Search {
     pull_ms: 700,
     until: 2101,
     ..KNOWN
@@ -176,7 +175,7 @@ fn run_loop<'a, A: AgentName, R: Wait>(
         page_after: search.page_after,
         pulls: ArrayVec::new(),
     };
-    tick_loop(&shared, Side { pass, link }, search.dice, &search.plan())
+    tick_loop(&shared, Side { pass, link }, search.dice, search.plan())
 }
 
 /// Lets the pass hear who has failed, and runs the loop with it.
@@ -238,14 +237,14 @@ where
     })
 }
 
-/// The word by which a loop that has heard a Page chooses a member every 700 ms, when it ends, and its Pulls. The
-/// members are c, d and e, in this order.
+/// The word by which a loop that has heard a Page chooses a member at 1400, when it ends, and its Pulls. The members
+/// are c, d and e, in this order, and these are its seeds too. At 700 and at 2100 it is the turn of a seed.
 const CHOSEN: &[(u32, u64, &[Pulled])] = &[
-    (0, 2101, &[(700, C), (1400, C), (2100, C)]),
+    (0, 2101, &[(700, C), (1400, C), (2100, D)]),
     (0, 1400, &[(700, C)]),
-    (1, 701, &[(700, D)]),
-    (2, 701, &[(700, E)]),
-    (4, 701, &[(700, D)]),
+    (1, 1401, &[(700, C), (1400, D)]),
+    (2, 1401, &[(700, C), (1400, E)]),
+    (4, 1401, &[(700, C), (1400, D)]),
 ];
 
 #[test]
@@ -255,7 +254,7 @@ fn words_choose_members(rt: HostRuntime) {
         let search = Search {
             dice,
             until,
-            ..CHOOSING
+            ..ASKING
         };
         assert!(rt; asks(&rt, rt.alloc(), search, pulls), "{word}, {until}");
     }
@@ -302,7 +301,7 @@ const OTHERS: &[(&str, Search, &[Pulled])] = &[
         "never",
         Search {
             pull_ms: 0,
-            ..CHOOSING
+            ..ASKING
         },
         &[],
     ),
@@ -310,19 +309,19 @@ const OTHERS: &[(&str, Search, &[Pulled])] = &[
         "nobody",
         Search {
             others: 0,
-            ..CHOOSING
+            ..ASKING
         },
         &[],
     ),
-    // The record of a member that has failed has the port that was told then.
+    // The record of a member that has failed has the port that was told then. A seed is asked where the file has it.
     (
         "one that has failed",
         Search {
             failed: 1,
-            until: 701,
-            ..CHOOSING
+            until: 1401,
+            ..ASKING
         },
-        &[(700, FAILED_C)],
+        &[(700, C), (1400, FAILED_C)],
     ),
     // Of the words 0, 1 and so on the tick at 0 takes the first.
     (
@@ -333,18 +332,48 @@ const OTHERS: &[(&str, Search, &[Pulled])] = &[
             until: 401,
             ..KNOWN
         },
-        &[(100, D), (200, E), (300, C), (400, D)],
+        &[(100, C), (200, D), (300, D), (400, E)],
     ),
-    // The seeds come first, and then the member that the dice choose.
     (
-        "seeds and a member at once",
+        "the first seed comes behind the last",
+        Search {
+            others: 2,
+            pull_ms: 100,
+            until: 501,
+            ..KNOWN
+        },
+        &[(100, C), (200, C), (300, D), (400, C), (500, C)],
+    ),
+    (
+        "each time twice as long after the one before",
+        Search {
+            pull_ms: 5000,
+            until: 7001,
+            ..KNOWN
+        },
+        &[(1000, C), (3000, C), (7000, D)],
+    ),
+    // A look is first. When it says that the seeds are to be asked, the times are counted from it.
+    (
+        "from a look",
         Search {
             pull_ms: 1000,
             page_after: NEVER,
             until: 1001,
             ..KNOWN
         },
-        &[(1000, C), (1000, D), (1000, E), (1000, C)],
+        &[(1000, C), (1000, D), (1000, E)],
+    ),
+    (
+        "soon behind a Page",
+        Search {
+            others: 2,
+            pull_ms: 5000,
+            page_after: 2,
+            until: 4001,
+            ..KNOWN
+        },
+        &[(1000, C), (1000, D), (2000, C), (4000, C)],
     ),
     // The turns are counted anew, and the moments go on.
     (
@@ -352,9 +381,9 @@ const OTHERS: &[(&str, Search, &[Pulled])] = &[
         Search {
             bound: 3,
             endless: true,
-            ..CHOOSING
+            ..ASKING
         },
-        &[(700, C), (1400, C), (2100, C)],
+        &[(700, C), (1400, C), (2100, D)],
     ),
 ];
 

@@ -26,6 +26,10 @@ const ACK_8: &[u8; 11] = b"SL\x01\x03\x01b\x00\x00\x00\x08\x00";
 /// The Ping of b for c with its first number.
 const PING_OF_C: &[u8; 13] = b"SL\x01\x01\x01b\x00\x00\x00\x01\x01c\x00";
 
+/// The Gossip of b that says that it has left, at 127.0.0.1:7000 with the incarnation 0.
+const LEFT_OF_B: &[u8; 22] =
+    b"SL\x03\x07\x00\x01b\x01\x04\x01b\x04\x7f\x00\x00\x01\x1b\x58\x00\x00\x00\x00";
+
 /// What comes over a link.
 #[derive(Clone, Copy)]
 pub enum Coming {
@@ -62,6 +66,7 @@ pub enum Spelled {
     Ack7,
     Ack8,
     PingOfC,
+    LeftOfB,
     Other,
 }
 
@@ -74,6 +79,8 @@ impl Spelled {
             Spelled::Ack8
         } else if bytes == &PING_OF_C[..] {
             Spelled::PingOfC
+        } else if bytes == &LEFT_OF_B[..] {
+            Spelled::LeftOfB
         } else {
             Spelled::Other
         }

@@ -36,7 +36,8 @@ impl Noted {
     }
 }
 
-/// What a loop of at most `bound` turns shares with nobody. If it is endless, it counts them anew and goes on.
+/// What a loop of at most `bound` turns shares with nobody. If it is endless, it counts them anew and goes on. One flag
+/// tells either loop to stop.
 pub(super) fn shared<'a, R>(
     rt: &'a R,
     alloc: Global,
@@ -53,6 +54,7 @@ pub(super) fn shared<'a, R>(
         alloc,
         clock,
         stop,
+        over: stop,
         page_heard: &noted.page_heard,
         counters: &noted.counters,
         changes: &noted.changes,
@@ -80,13 +82,15 @@ pub(super) fn receive<A: AgentName, R: Wait, L: Link>(
     receive_loop(&shared, Side { pass, link })
 }
 
-/// A plan of ticks alone, until a moment.
+/// A plan of ticks alone, until a moment. The member doesn't leave then. If it does all the same, it doesn't linger.
 pub(super) fn ticks_until(until: Moment) -> Plan {
     Plan {
         name: Name::default(),
         seeds: ArrayVec::new(),
+        interval_ms: 0,
         pull_ms: 0,
         until,
+        leaves: false,
     }
 }
 
@@ -106,5 +110,5 @@ pub(super) fn tick<A: AgentName, R: Wait, L: Link>(
     let noted = Noted::new(false);
     let shared = shared(rt, alloc, clock, stop, &noted, bound, false);
     let dice = FixedDice { word: 0 };
-    tick_loop(&shared, Side { pass, link }, dice, &ticks_until(at(until)))
+    tick_loop(&shared, Side { pass, link }, dice, ticks_until(at(until)))
 }

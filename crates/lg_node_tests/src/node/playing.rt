@@ -5,6 +5,7 @@ use super::alone::{LoopSeen, Run, run_alone};
 use super::both::{BothRun, BothSeen, run_both};
 use super::finding::{Found, Search, run_search};
 use super::keyed::{KeyedSeen, run_keyed};
+use super::leaving::{LeavingSeen, run_leaving};
 use super::rotating::{StreamSeen, run_stream};
 use lg_agent::{Agent, AgentName, Refusal, Spent};
 use lg_agent_testing::{Case, Left, Outcome, room};
@@ -20,6 +21,8 @@ use std::thread::Threads;
 pub enum Play {
     /// The last pass runs one loop of a node.
     Loop(Run),
+    /// The second pass runs a ticking loop, and the first looks at this member's record then.
+    Leave(Run),
     /// Four passes run both loops of a node, and a watcher if it is followed. A call of each link may fail.
     Both(BothRun),
     /// One loop of a node after the other: many datagrams, and then many ticks.
@@ -34,6 +37,7 @@ pub enum Play {
 #[derive(Drop)]
 pub enum Shown {
     Loop(LoopSeen),
+    Leaving(LeavingSeen),
     Both(BothSeen),
     Stream(StreamSeen),
     Keyed(KeyedSeen),
@@ -57,6 +61,7 @@ where
     };
     match play {
         Play::Loop(run) => run_alone(rt, alloc, passes, run, spents),
+        Play::Leave(run) => run_leaving(rt, alloc, passes, run, spents),
         Play::Both(both) => run_both(rt, alloc, passes, both, spents),
         Play::Stream => run_stream(rt, alloc, passes, spents),
         Play::Keyed => run_keyed(rt, alloc, passes, spents),

@@ -119,6 +119,35 @@ fn one_loop(rt: HostRuntime) {
     }
 }
 
+/// Whether the loop made one turn, in which the member left and told one other, or was refused to.
+fn has_left(outcome: &Outcome<Shown>) -> bool {
+    let Some(Shown::Loop(seen)) = &outcome.seen else {
+        return false;
+    };
+    let (why, calls_refused) = match seen.answered {
+        0 => (Why::Refused(Refusal::NoMemory), 1),
+        _ => (Why::Stopped, 0),
+    };
+    let entries = (seen.answered as u64).wrapping_add(1);
+    seen.end.why == why
+        && seen.end.turns == 1
+        && seen.counted.refused == calls_refused
+        && seen.stop
+        && outcome.ending.entries == Some(entries)
+        && handed(seen.calls.as_slice()) == seen.answered
+}
+
+/// A ticking loop that is to stop at once, and at whose end the member leaves. If memory is refused to that call, the
+/// loop says so, and tells nobody.
+#[test]
+fn a_leave(rt: HostRuntime) {
+    let mut case = Run::leaving(0).case();
+    case.others = 1;
+    case.wire = 3;
+    let outcome = told_at_last(&rt, rt.alloc(), case);
+    assert!(rt; outcome.as_ref().is_ok_and(has_left));
+}
+
 /// Whether there was a thread for the receiving loop, or neither loop made a turn. In that case the agent holds only
 /// its opening. If there was one, the ticking loop has made a turn.
 fn is_still(seen: (BothSeen, Ending)) -> bool {

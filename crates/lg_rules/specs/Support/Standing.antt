@@ -1,11 +1,11 @@
--- What a member knows of itself and of the others once it heard some claims about anyone, one after another, and
--- which of the claims change a record.
+-- What a member knows of itself and of the others after a past, and once it heard some claims about anyone, one after
+-- another; and which of the claims change a record.
 use Rattle.std.specs.Prelude.{ℕ, Bool, true, false, if◌then◌else◌, List, [], ◌∷◌}
 use Rattle.lg_rules.specs.declared.addr.Addr.{Addr}
 use Rattle.lg_rules.specs.declared.claim.Claim.{Claim}
 use Rattle.lg_rules.specs.declared.own.OwnHeard.{OwnHeard}
 use Rattle.lg_rules.specs.declared.own.OwnHeard.TheVariants.{Refuted, Raised, Ousted, Ignored}
-use Rattle.lg_rules.specs.Meaning.Own.{OwnValue, own_hearing, own_heard, own_of, own_record}
+use Rattle.lg_rules.specs.Meaning.Own.{OwnValue, OwnFact, own_hearing, own_heard, own_of, own_record, claims_told}
 use Rattle.lg_rules.specs.Meaning.Rows.{name_cmp, is_same}
 use Rattle.lg_rules.specs.Meaning.Table.{table_of, takes, heard}
 use Rattle.lg_rules.specs.Meaning.View.{view_of}
@@ -15,8 +15,8 @@ pub record Standing : Type 0 where
   pub own : OwnValue
   pub table : List Claim
 
-abbrev pub standing_of : List ℕ → Addr → List Claim → Standing
-standing_of name addr past = record { own = own_of name addr past; table = table_of name past }
+abbrev pub standing_of : List ℕ → Addr → List OwnFact → Standing
+standing_of name addr past = record { own = own_of name addr past; table = table_of name (claims_told past) }
 
 -- the member table, with this member's own record
 abbrev pub standing_view : Standing → List Claim

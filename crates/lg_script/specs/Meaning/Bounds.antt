@@ -5,7 +5,7 @@ use Rattle.std.specs.Prelude.{ℕ}
 abbrev pub greatest_moment : ℕ
 greatest_moment = 1000000000000000
 
--- how many random words a tick has, and the greatest random word, which is the greatest number of 32 bits
+-- how many random words a tick or a leave has, and the greatest random word, which is the greatest number of 32 bits
 abbrev pub random_words : ℕ
 random_words = 8
 

@@ -6,7 +6,8 @@ use Rattle.lg_text.specs.Meaning.Numbers.{number_of, port_of}
 use Rattle.lg_text.specs.Meaning.Steps.{◌>>=◌}
 use Rattle.lg_script.specs.Meaning.Values.{moment_of, random_words_of, seeds_of}
 use Rattle.lg_script.specs.declared.command.Command.{Command}
-use Rattle.lg_script.specs.declared.command.Command.TheVariants.{Set, Open, Tick, Deliver, Ask, Health, Pull, Table}
+use Rattle.lg_script.specs.declared.command.Command.TheVariants.{Set, Open, Tick, Deliver}
+use Rattle.lg_script.specs.declared.command.Command.TheVariants.{Ask, Health, Pull, Leave, Table}
 use Rattle.lg_script.specs.declared.verb.Verb.{Verb}
 use Rattle.lg_script.specs.declared.verb.Verb.TheVariants as verb
 
@@ -68,6 +69,14 @@ pull_command words = do
   port ← port_of (word_at words 2)
   Some (Pull name now port)
 
+-- leave NAME MOMENT WORD..
+unfoldable pub leave_command : List (List ℕ) → Option Command
+leave_command words = do
+  name ← member_name_of (word_at words 0)
+  now ← moment_of (word_at words 1)
+  random ← random_words_of (drop 2 words)
+  Some (Leave name now random)
+
 -- table NAME
 unfoldable pub table_command : List (List ℕ) → Option Command
 table_command words = do
@@ -83,4 +92,5 @@ command_named verb.Deliver words = deliver_command words
 command_named verb.Ask words = ask_command words
 command_named verb.Health words = health_command words
 command_named verb.Pull words = pull_command words
+command_named verb.Leave words = leave_command words
 command_named verb.Table words = table_command words

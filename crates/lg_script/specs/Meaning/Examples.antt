@@ -5,13 +5,14 @@ use Rattle.std.specs.List.{flat_map}
 use Rattle.lg_rules.specs.declared.addr.Ip.TheVariants.{V4}
 use Rattle.lg_timing.specs.declared.config.Seed.{Seed}
 use Rattle.lg_script.specs.declared.command.Command.{Command}
-use Rattle.lg_script.specs.declared.command.Command.TheVariants.{Set, Open, Tick, Deliver, Ask, Health, Pull, Table}
+use Rattle.lg_script.specs.declared.command.Command.TheVariants.{Set, Open, Tick, Deliver}
+use Rattle.lg_script.specs.declared.command.Command.TheVariants.{Ask, Health, Pull, Leave, Table}
 use Rattle.lg_timing.specs.declared.keys.Key.TheVariants.{IntervalMs, Lambda, HistoryLimit, Wire}
 use Rattle.lg_script.specs.declared.fault.ScriptFault.{ScriptFault}
 use Rattle.lg_script.specs.declared.fault.ScriptFault.TheVariants as fault
 use Rattle.lg_text.specs.Meaning.Cutting.{before, behind}
 use Rattle.lg_script.specs.Meaning.Commands.{set_command, open_command, tick_command, deliver_command}
-use Rattle.lg_script.specs.Meaning.Commands.{ask_command, health_command, pull_command, table_command}
+use Rattle.lg_script.specs.Meaning.Commands.{ask_command, health_command, pull_command, leave_command, table_command}
 use Rattle.lg_script.specs.Meaning.Lines.{command_of}
 use Rattle.lg_script.specs.Meaning.Values.{local}
 use Rattle.lg_script.specs.Meaning.Words.{verb_of}
@@ -86,6 +87,22 @@ pulls : command_of (codes "pull a 7 1") ≡ gives (Pull (97 ∷ []) 7 1)
 unfolding command_of verb_of pull_command
 pulls = refl
 
+-- whether a member of this name is open is judged elsewhere
+leaves : command_of (codes "leave z 1000000000000000")
+    ≡ gives (Leave (122 ∷ []) 1000000000000000 (0 ∷ 0 ∷ 0 ∷ 0 ∷ 0 ∷ 0 ∷ 0 ∷ 0 ∷ []))
+unfolding command_of verb_of leave_command
+leaves = refl
+
+leaves-with-words : command_of (codes "leave b 10 1 4294967295")
+    ≡ gives (Leave (98 ∷ []) 10 (1 ∷ 4294967295 ∷ 0 ∷ 0 ∷ 0 ∷ 0 ∷ 0 ∷ 0 ∷ []))
+unfolding command_of verb_of leave_command
+leaves-with-words = refl
+
+leaves-with-all : command_of (codes "leave b 10 1 2 3 4 5 6 7 8")
+    ≡ gives (Leave (98 ∷ []) 10 (1 ∷ 2 ∷ 3 ∷ 4 ∷ 5 ∷ 6 ∷ 7 ∷ 8 ∷ []))
+unfolding command_of verb_of leave_command
+leaves-with-all = refl
+
 shows-table : command_of (codes "table a") ≡ gives (Table (97 ∷ []))
 unfolding command_of verb_of table_command
 shows-table = refl
@@ -123,6 +140,10 @@ capital : command_of (codes "Table a") ≡ Err fault.Command
 unfolding command_of verb_of
 capital = refl
 
+capital-of-leave : command_of (codes "Leave a 0") ≡ Err fault.Command
+unfolding command_of verb_of
+capital-of-leave = refl
+
 tab-in-name-of-command : command_of (codes "tick" ++ 9 ∷ codes "a 0") ≡ Err fault.Command
 unfolding command_of verb_of
 tab-in-name-of-command = refl
@@ -152,6 +173,18 @@ lone-table = refl
 ninth-word : command_of (codes "tick a 0 1 2 3 4 5 6 7 8 9") ≡ Err fault.Words
 unfolding command_of verb_of
 ninth-word = refl
+
+leave-without-moment : command_of (codes "leave a") ≡ Err fault.Words
+unfolding command_of verb_of
+leave-without-moment = refl
+
+ninth-word-of-leave : command_of (codes "leave a 0 1 2 3 4 5 6 7 8 9") ≡ Err fault.Words
+unfolding command_of verb_of
+ninth-word-of-leave = refl
+
+space-before-leave : command_of (codes " leave a 0") ≡ Err fault.Words
+unfolding command_of verb_of
+space-before-leave = refl
 
 open-without-moment : command_of (codes "open a 7001") ≡ Err fault.Words
 unfolding command_of verb_of
@@ -187,6 +220,22 @@ port-65536 = refl
 great-random-word : command_of (codes "tick a 0 4294967296") ≡ Err fault.Value
 unfolding command_of verb_of tick_command
 great-random-word = refl
+
+leave-at-no-moment : command_of (codes "leave a x") ≡ Err fault.Value
+unfolding command_of verb_of leave_command
+leave-at-no-moment = refl
+
+great-random-word-of-leave : command_of (codes "leave a 0 4294967296") ≡ Err fault.Value
+unfolding command_of verb_of leave_command
+great-random-word-of-leave = refl
+
+comma-between-random-words : command_of (codes "leave a 0 1,2") ≡ Err fault.Value
+unfolding command_of verb_of leave_command
+comma-between-random-words = refl
+
+no-name-leaves : command_of (codes "leave z! 0") ≡ Err fault.Value
+unfolding command_of verb_of leave_command
+no-name-leaves = refl
 
 seed-without-port : command_of (codes "open a 7001 0 b") ≡ Err fault.Value
 unfolding command_of verb_of open_command before behind

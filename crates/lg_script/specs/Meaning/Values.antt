@@ -46,7 +46,7 @@ each_of read (word ∷ words) = do
 abbrev pub at_most_of : {A : Type 0} → ℕ → (List ℕ → Option A) → List (List ℕ) → Option (List A)
 at_most_of most read words = if nat_le (length words) most then each_of read words else None
 
--- the eight random words of a tick; those that are missing are 0
+-- the eight random words of a tick or a leave; those that are missing are 0
 abbrev pub with_missing : List ℕ → List ℕ
 with_missing numbers = numbers ++ replicate (random_words - length numbers) 0
 

@@ -5,7 +5,7 @@ use Rattle.std.specs.List.{list_all, slice_split}
 use Rattle.std.specs.Str.{bytes_eq}
 use Rattle.lg_timing.specs.Meaning.Config.{is_within}
 use Rattle.lg_script.specs.declared.verb.Verb.{Verb}
-use Rattle.lg_script.specs.declared.verb.Verb.TheVariants.{Set, Open, Tick, Deliver, Ask, Health, Pull, Table}
+use Rattle.lg_script.specs.declared.verb.Verb.TheVariants.{Set, Open, Tick, Deliver, Ask, Health, Pull, Leave, Table}
 
 -- the parts of a line between its spaces; a line with no space is one part
 abbrev pub parts_of : List ℕ → List (List ℕ)
@@ -25,6 +25,7 @@ verb_of word =
     else if bytes_eq word (codes "ask") then Some Ask
     else if bytes_eq word (codes "health") then Some Health
     else if bytes_eq word (codes "pull") then Some Pull
+    else if bytes_eq word (codes "leave") then Some Leave
     else if bytes_eq word (codes "table") then Some Table
     else None
 
@@ -41,6 +42,7 @@ takes_words Deliver words = words == 2
 takes_words Ask words = words == 3
 takes_words Health words = words == 2
 takes_words Pull words = words == 3
+takes_words Leave words = is_within 2 10 words
 takes_words Table words = words == 1
 
 -- whether the parts of a line are words, separated by single spaces, and as many as the command takes

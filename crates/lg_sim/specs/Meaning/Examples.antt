@@ -4,18 +4,20 @@ use Rattle.std.specs.List.{range_with_len}
 use Rattle.arrayvec.specs.ArrayVec.{ArrayVec}
 use Rattle.lg_timing.specs.Meaning.Config.{check_of}
 use Rattle.lg_timing.specs.declared.config.Seed.{Seed}
-use Rattle.lg_packet.specs.declared.packet.Body.TheVariants.{Ack, Ping}
+use Rattle.lg_packet.specs.declared.packet.Body.TheVariants.{Ack, Page, Ping}
 use Rattle.lg_packet.specs.declared.packet.Packet.{Packet}
+use Rattle.lg_rules.specs.declared.claim.Status.{Status}
+use Rattle.lg_rules.specs.declared.claim.Status.TheVariants.{Failed, Left}
 use Rattle.lg_rules.specs.declared.version.Version.TheVariants.{One}
 use Rattle.lg_detector.specs.Meaning.Examples.{by_computing as detecting}
 use Rattle.lg_detector.specs.declared.event.Event.TheVariants as event
 use Rattle.lg_lines.specs.Meaning.Examples.{by_computing as reporting}
-use Rattle.lg_script.specs.Meaning.Commands.{open_command, tick_command}
+use Rattle.lg_script.specs.Meaning.Commands.{leave_command, open_command, tick_command}
 use Rattle.lg_script.specs.Meaning.Lines.{command_of}
 use Rattle.lg_script.specs.Meaning.Values.{local}
 use Rattle.lg_script.specs.Meaning.Words.{verb_of}
 use Rattle.lg_script.specs.declared.command.Command.{Command}
-use Rattle.lg_script.specs.declared.command.Command.TheVariants.{Set, Open, Tick, Deliver, Health, Pull, Table}
+use Rattle.lg_script.specs.declared.command.Command.TheVariants.{Set, Open, Tick, Deliver, Health, Pull, Leave, Table}
 use Rattle.lg_timing.specs.declared.keys.Key.TheVariants.{Alpha, Beta, IntervalMs}
 use Rattle.lg_script.specs.declared.fault.ScriptFault.TheVariants as fault
 use Rattle.lg_text.specs.Meaning.Lines.{newline}
@@ -102,6 +104,17 @@ pull-by-a : happening_of (Pull a 5 7002) (open-a ∷ [])
     ≡ Some record { member = member-a; event = event.Pull 5 (local 7002) }
 pull-by-a = refl
 
+-- eight random words, of which the first two are these
+abbrev words : ℕ → ℕ → List ℕ
+words first second = first ∷ second ∷ 0 ∷ 0 ∷ 0 ∷ 0 ∷ 0 ∷ 0 ∷ []
+
+leave-of-b : happening_of (Leave b 10 (words 1 7)) (open-b ∷ open-a ∷ [])
+    ≡ Some record { member = member-b; event = event.Leave 10 (words 1 7) }
+leave-of-b = refl
+
+leave-of-z : happening_of (Leave z 10 (words 1 7)) (open-b ∷ open-a ∷ []) ≡ None
+leave-of-z = refl
+
 -- ---- packets
 
 -- a Ping of a to b, and b's Ack
@@ -133,8 +146,24 @@ no-packet-zero = refl
 -- b hears the Ping from the address of a
 ping-delivered : delivered 5 (Some ping) (member-a ∷ member-b ∷ [])
     ≡ Some record { member = member-b; event = event.Heard 5 (local 7001) pinged }
-unfolding ping
+unfolding ping pinged
 ping-delivered = refl
+
+-- a packet of version 1 that holds that a left, which is heard as that a failed
+abbrev told-of-a : Status → Packet
+told-of-a status = record {
+  version = One;
+  group = None;
+  sender = a;
+  body = Page;
+  claims = record { items = record { name = a; addr = local 7001; status = status; incarnation = 0 } ∷ [] };
+}
+
+left-delivered : delivered 5
+    (Some record { from = local 7001; outgoing = record { to = local 7002; packet = told-of-a Left } })
+    (member-a ∷ member-b ∷ [])
+    ≡ Some record { member = member-b; event = event.Heard 5 (local 7001) (told-of-a Failed) }
+left-delivered = refl
 
 delivered-to-nobody : delivered 5 (Some ping) (member-a ∷ []) ≡ None
 unfolding ping
@@ -184,6 +213,13 @@ can-be-opened = refl
 not-open : command_fault (Table z) (open-a ∷ []) ≡ Some fault.Member
 not-open = refl
 
+none-to-leave : command_fault (Leave z 0 (words 0 0)) (open-a ∷ []) ≡ Some fault.Member
+none-to-leave = refl
+
+-- a member that left is open as before
+can-leave-again : command_fault (Leave a 5 (words 0 0)) (Leave a 0 (words 0 0) ∷ open-a ∷ []) ≡ None
+can-leave-again = refl
+
 never-sent : command_fault (Deliver 1 0) [] ≡ Some fault.Packet
 never-sent = refl
 
@@ -202,6 +238,19 @@ opening-said = refl
 table-said : text_of (Table a) (open-a ∷ []) ≡ codes "record a alive 0 127.0.0.1:7001" ++ newline
 unfolding detecting reporting
 table-said = refl
+
+-- b is told by a Page of version 1, in which Left stands as Failed
+leave-said : text_of (Leave a 0 (words 0 0)) (open-a-with-b ∷ [])
+    ≡ codes "send 1 127.0.0.1:7002 534c01060161010301617f0000011b5900000000" ++ newline
+    ++ codes "record a left 0 127.0.0.1:7001" ++ newline
+    ++ codes "next 0" ++ newline
+unfolding open-a-with-b detecting reporting
+leave-said = refl
+
+second-leave-said : text_of (Leave a 5 (words 0 0)) (Leave a 0 (words 0 0) ∷ open-a-with-b ∷ [])
+    ≡ codes "next 0" ++ newline
+unfolding open-a-with-b detecting reporting
+second-leave-said = refl
 
 nobody-said : happening_text None [] ≡ codes "nobody" ++ newline
 nobody-said = refl
@@ -228,3 +277,9 @@ second-line = refl
 first-fault : script_text (codes "tick z 0" ++ newline ++ codes "tock") ≡ codes "fault 1 member" ++ newline
 unfolding script_text command_of verb_of tick_command reporting
 first-fault = refl
+
+-- an event has no earlier moment than those before it
+leaves-alone : script_text (codes "open a 7001 7" ++ newline ++ codes "leave a 5")
+    ≡ codes "next 7" ++ newline ++ codes "record a left 0 127.0.0.1:7001" ++ newline ++ codes "next 7" ++ newline
+unfolding script_text command_of verb_of open_command leave_command detecting reporting
+leaves-alone = refl

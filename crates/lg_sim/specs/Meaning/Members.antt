@@ -5,7 +5,6 @@ use Rattle.std.specs.Prelude.{
   ◌==◌,
   nat_eq,
   Bool,
-  ◌&&◌,
   List,
   [],
   ◌∷◌,

@@ -24,7 +24,8 @@ use Rattle.lg_lines.specs.Meaning.Records.{table_text}
 use Rattle.lg_lines.specs.Meaning.Replies.{reply_text}
 use Rattle.lg_text.specs.Meaning.Lines.{newline}
 use Rattle.lg_script.specs.declared.command.Command.{Command}
-use Rattle.lg_script.specs.declared.command.Command.TheVariants.{Set, Open, Tick, Deliver, Ask, Health, Pull, Table}
+use Rattle.lg_script.specs.declared.command.Command.TheVariants.{Set, Open, Tick, Deliver}
+use Rattle.lg_script.specs.declared.command.Command.TheVariants.{Ask, Health, Pull, Leave, Table}
 use Rattle.lg_script.specs.declared.fault.ScriptFault.{ScriptFault}
 use Rattle.lg_script.specs.declared.fault.ScriptFault.TheVariants as fault
 use Rattle.lg_sim.specs.Meaning.Members.{Happening, events_of, member_at, member_named, packet_number, sent}
@@ -65,6 +66,7 @@ command_fault (Deliver packet now) before = packet_fault packet (happenings befo
 command_fault (Ask name now other) before = naming_fault name (opened before)
 command_fault (Health name now) before = naming_fault name (opened before)
 command_fault (Pull name now port) before = naming_fault name (opened before)
+command_fault (Leave name now words) before = naming_fault name (opened before)
 command_fault (Table name) before = naming_fault name (opened before)
 
 -- The lines of what happened: the reply of the member. The numbers of its packets go on from those of the packets

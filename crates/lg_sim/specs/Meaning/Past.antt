@@ -9,11 +9,13 @@ use Rattle.lg_timing.specs.Meaning.Config.{defaults}
 use Rattle.lg_timing.specs.Meaning.Keys.{with_number}
 use Rattle.lg_timing.specs.declared.config.Config.{Config}
 use Rattle.lg_timing.specs.declared.config.Seed.{Seed}
+use Rattle.lg_packet.specs.Meaning.Spelling.{spellable}
 use Rattle.lg_detector.specs.declared.event.Event.{Event}
 use Rattle.lg_detector.specs.declared.event.Event.TheVariants as event
 use Rattle.lg_script.specs.Meaning.Values.{local}
 use Rattle.lg_script.specs.declared.command.Command.{Command}
-use Rattle.lg_script.specs.declared.command.Command.TheVariants.{Set, Open, Tick, Deliver, Ask, Health, Pull, Table}
+use Rattle.lg_script.specs.declared.command.Command.TheVariants.{Set, Open, Tick, Deliver}
+use Rattle.lg_script.specs.declared.command.Command.TheVariants.{Ask, Health, Pull, Leave, Table}
 use Rattle.lg_sim.specs.Meaning.Members.{Happening, member_at, member_named, packet_number, sent}
 use Rattle.lg_sim.specs.declared.host.Member.{Member}
 use Rattle.lg_sim.specs.declared.host.SentPacket.{SentPacket}
@@ -45,9 +47,10 @@ opened (_ ∷ before) = opened before
 abbrev pub at_named : List ℕ → Event → List Member → Option Happening
 at_named name e members = option_map (λ m. record { member = m; event = e }) (member_named name members)
 
--- A packet is heard from the address of its sender. The member at its destination hears it, if there is one.
+-- A packet is heard from the address of its sender, as its bytes tell it: those of versions 1 and 2 tell Left as
+-- Failed. The member at its destination hears it, if there is one.
 abbrev pub arrival : ℕ → SentPacket → Event
-arrival now packet = event.Heard now packet.from packet.outgoing.packet
+arrival now packet = event.Heard now packet.from (spellable packet.outgoing.packet)
 
 abbrev pub delivered : ℕ → Option SentPacket → List Member → Option Happening
 delivered now None members = None
@@ -66,6 +69,7 @@ happening_after (Deliver packet now) before past = delivered now (packet_number 
 happening_after (Ask name now other) before past = at_named name (event.Ask now other) (opened before)
 happening_after (Health name now) before past = at_named name (event.Health now) (opened before)
 happening_after (Pull name now port) before past = at_named name (event.Pull now (local port)) (opened before)
+happening_after (Leave name now words) before past = at_named name (event.Leave now words) (opened before)
 happening_after (Table name) before past = None
 
 -- what happened in the cluster

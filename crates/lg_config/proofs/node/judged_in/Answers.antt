@@ -1,7 +1,7 @@
 use Rattle.std.proofs.Common.{Err, ap, sym, ◌∙◌}
 use Rattle.toml.specs.View.{table_view}
 use Rattle.lg_config.specs.declared.fault.FileFault.TheVariants as fault
-use Rattle.lg_config.specs.Meaning.Answer.{unless_broken, unless_config}
+use Rattle.lg_config.specs.Meaning.Answer.{unless_config}
 use Rattle.lg_config.specs.Support.Reading.{fault_of_many}
 use Rattle.lg_config.proofs.MeaningLaws.{judged-few, judged-many}
 use Rattle.lg_config.proofs.node.judged_in.Goals as goal
@@ -11,13 +11,8 @@ returns-then-seeds_at-gt-MAX_SEEDS c =
     ap (λ found. Err (fault.Config found)) (c.fault_of_many.ensures ∙ ap fault_of_many c.check-checked.ensures)
     ∙ judged-many (table_view c.args.table.now) c.in_ok-node.node c.seeds_at.result.now (sym c.in_ok-node.ensures.ok_part ∙ c.settings_in.ensures) c.seeds_at.ensures c.if-seeds_at-gt-MAX_SEEDS.true
 
-pub returns-in-Ok : goal.returns-in-Ok
-returns-in-Ok c =
-    c.unless_broken.ensures ∙ ap (unless_broken c.in_ok-node.node) c.own_broken-broken.ensures
-    ∙ ap (unless_config c.in_ok-node.node) c.in-Ok.ensures
-    ∙ judged-few (table_view c.args.table.now) c.in_ok-node.node c.seeds_at.result.now (sym c.in_ok-node.ensures.ok_part ∙ c.settings_in.ensures) c.seeds_at.ensures c.if-seeds_at-gt-MAX_SEEDS.false
-
-pub returns-in-Err : goal.returns-in-Err
-returns-in-Err c =
-    ap (unless_config c.in_ok-node.node) c.in-Err.ensures
+pub returns : goal.returns
+returns c =
+    c.unless_config.ensures
+    ∙ ap (unless_config c.in_ok-node.node) c.check-checked.ensures
     ∙ judged-few (table_view c.args.table.now) c.in_ok-node.node c.seeds_at.result.now (sym c.in_ok-node.ensures.ok_part ∙ c.settings_in.ensures) c.seeds_at.ensures c.if-seeds_at-gt-MAX_SEEDS.false

@@ -1,4 +1,4 @@
-//! What happens to members of the worked scripts: of all in `examples` but `comeback.sim`, and of some in
+//! What happens to members of the worked scripts: of all in `examples` but `comeback.sim` and `leave.sim`, and of some in
 //! `cases/sim.case`, `sim_packets.case` and `sim_replies.case`. All is as in the script, with two exceptions. A claim
 //! of an incarnation above 0 is about port 7000, and the member that is pulled is at port 7002.
 use crate::detector::happening::Happens::{Ask, First, From, Health, Opens, Pull, TickBy};

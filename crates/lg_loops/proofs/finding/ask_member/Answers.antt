@@ -6,8 +6,7 @@ use Rattle.lg_detector.specs.Meaning.Step.{view_after}
 use Rattle.lg_loops.specs.Meaning.Turns.{Turn}
 use Rattle.lg_loops.specs.Meaning.Turns.Turn.{AskedMember, UnaskedMember, FoundNobody, Unfound}
 use Rattle.lg_loops.specs.Meaning.Pulling.{others_of, IsChosen}
-use Rattle.lg_loops.proofs.TurnLaws.{before_until}
-use Rattle.lg_loops.proofs.PullingLaws.{agenda_more, choice_time}
+use Rattle.lg_loops.proofs.PullingLaws.{agenda_next, member_time}
 use Rattle.lg_loops.proofs.finding.ask_member.Goals as goal
 
 pub returns-in_default : goal.returns-in_default
@@ -17,7 +16,7 @@ returns-in_default g c = λ p look low duty.
       record {
         took = record {
           turn = t;
-          kind_is = before_until c.args.now c.args.plan.now.until low;
+          kind_is = refl;
           is = rw c.in_default.ensures look;
           told = λ yes. sym (append-nil (g.L.Link.log c.args.ticker.now.side.link));
           failed = omega arith;
@@ -27,8 +26,9 @@ returns-in_default g c = λ p look low duty.
           few_dropped = omega (arith, on.dropped);
           few_unsent = omega (arith, on.unsent);
         };
-        timely = λ since before was. choice_time c.args.plan.now since before c.args.agenda.now c.args.now was duty;
-        noted = λ since before was. agenda_more c.args.plan.now since before t c.args.agenda.now c.note_choice.new.self was (rw c.note_choice.ensures refl) (rw c.note_choice.ensures refl) (rw c.note_choice.ensures refl);
+        plans = refl;
+        timely = λ since before was. member_time c.args.plan.now since before c.args.agenda.now c.args.now low was duty;
+        noted = λ since before was. agenda_next c.args.plan.now since before t c.args.now c.args.agenda.now c.note_asking.new.self was c.note_asking.ensures refl refl refl;
       },
       refl,
     )
@@ -42,7 +42,7 @@ returns-then-len-eq0 g c = λ p look low duty.
       record {
         took = record {
           turn = t;
-          kind_is = before_until c.args.now c.args.plan.now.until low;
+          kind_is = refl;
           is = record { between = c.args.ticker.now.side.pass; none_due = look; look = e.1; saw = refl };
           told = λ yes. sym (append-nil (g.L.Link.log c.args.ticker.now.side.link));
           failed = omega arith;
@@ -52,8 +52,9 @@ returns-then-len-eq0 g c = λ p look low duty.
           few_dropped = omega (arith, on.dropped);
           few_unsent = omega (arith, on.unsent);
         };
-        timely = λ since before was. (choice_time c.args.plan.now since before c.args.agenda.now c.args.now was duty, sym e.0 ∙ none);
-        noted = λ since before was. agenda_more c.args.plan.now since before t c.args.agenda.now c.note_choice.new.self was (rw c.note_choice.ensures refl) (rw c.note_choice.ensures refl) (rw c.note_choice.ensures refl);
+        plans = refl;
+        timely = λ since before was. (member_time c.args.plan.now since before c.args.agenda.now c.args.now low was duty, sym e.0 ∙ none);
+        noted = λ since before was. agenda_next c.args.plan.now since before t c.args.now c.args.agenda.now c.note_asking.new.self was c.note_asking.ensures refl refl refl;
       },
       refl,
     )
@@ -67,7 +68,7 @@ returns-in-Ok g c = λ p look low duty.
       record {
         took = record {
           turn = t;
-          kind_is = before_until c.args.now c.args.plan.now.until low;
+          kind_is = refl;
           is = (c.others.new.pass, record { between = c.args.ticker.now.side.pass; none_due = look; look = e.1; saw = refl }, c.in-Ok.ensures.answered, h.each);
           told = h.told;
           failed = omega (arith, h.failed_is, h.unsent_is);
@@ -77,8 +78,9 @@ returns-in-Ok g c = λ p look low duty.
           few_dropped = omega (arith, c.of.ensures.dropped);
           few_unsent = c.of.ensures.few;
         };
-        timely = λ since before was. (choice_time c.args.plan.now since before c.args.agenda.now c.args.now was duty, one);
-        noted = λ since before was. agenda_more c.args.plan.now since before t c.args.agenda.now c.note_choice.new.self was (rw c.note_choice.ensures refl) (rw c.note_choice.ensures refl) (rw c.note_choice.ensures refl);
+        plans = refl;
+        timely = λ since before was. (member_time c.args.plan.now since before c.args.agenda.now c.args.now low was duty, one);
+        noted = λ since before was. agenda_next c.args.plan.now since before t c.args.now c.args.agenda.now c.note_asking.new.self was c.note_asking.ensures refl refl refl;
       },
       (c.words-words.new.self, c.words-words.ensures, refl),
     )
@@ -93,7 +95,7 @@ returns g c = λ p look low duty.
       record {
         took = record {
           turn = t;
-          kind_is = before_until c.args.now c.args.plan.now.until low;
+          kind_is = refl;
           is = (c.others.new.pass, record { between = c.args.ticker.now.side.pass; none_due = look; look = e.1; saw = refl }, f.answered, f.refusal);
           told = λ yes. sym (append-nil (g.L.Link.log c.args.ticker.now.side.link));
           failed = omega arith;
@@ -103,8 +105,9 @@ returns g c = λ p look low duty.
           few_dropped = omega (arith, end.dropped);
           few_unsent = omega (arith, end.unsent);
         };
-        timely = λ since before was. (choice_time c.args.plan.now since before c.args.agenda.now c.args.now was duty, one);
-        noted = λ since before was. agenda_more c.args.plan.now since before t c.args.agenda.now c.note_choice.new.self was (rw c.note_choice.ensures refl) (rw c.note_choice.ensures refl) (rw c.note_choice.ensures refl);
+        plans = refl;
+        timely = λ since before was. (member_time c.args.plan.now since before c.args.agenda.now c.args.now low was duty, one);
+        noted = λ since before was. agenda_next c.args.plan.now since before t c.args.now c.args.agenda.now c.note_asking.new.self was c.note_asking.ensures refl refl refl;
       },
       (c.words-words.new.self, c.words-words.ensures, refl),
     )

@@ -2,8 +2,7 @@ use Rattle.std.proofs.Common.{sym, refl, arith, append-nil}
 use Rattle.lg_agent.specs.Meaning.Calls.{receipt_of}
 use Rattle.lg_loops.specs.Meaning.Turns.{Turn}
 use Rattle.lg_loops.specs.Meaning.Turns.Turn.{AskedSeed, UnaskedSeed}
-use Rattle.lg_loops.proofs.TurnLaws.{before_until}
-use Rattle.lg_loops.proofs.PullingLaws.{agenda_more, seed_first, seed_gone}
+use Rattle.lg_loops.proofs.PullingLaws.{seed_first, seed_noted}
 use Rattle.lg_loops.proofs.finding.ask_seed.Goals as goal
 
 pub returns-in-Ok : goal.returns-in-Ok
@@ -13,7 +12,7 @@ returns-in-Ok g c = λ plan p look low duty.
       record {
         took = record {
           turn = t;
-          kind_is = before_until c.args.now plan.until low;
+          kind_is = refl;
           is = (c.args.side.now.pass, look, c.in-Ok.ensures.answered, h.each);
           told = h.told;
           failed = omega (arith, h.failed_is, h.unsent_is);
@@ -23,8 +22,9 @@ returns-in-Ok g c = λ plan p look low duty.
           few_dropped = omega (arith, c.of.ensures.dropped);
           few_unsent = c.of.ensures.few;
         };
-        timely = λ since before was. seed_first plan since before c.args.agenda.now c.args.peer was duty.1;
-        noted = λ since before was. agenda_more plan since before t c.args.agenda.now c.note_seed.new.self was (rw c.note_seed.ensures refl) (rw c.note_seed.ensures refl) (rw c.note_seed.ensures (seed_gone plan c.args.agenda.now c.args.peer duty.1));
+        plans = refl;
+        timely = λ since before was. (low, seed_first plan since before c.args.agenda.now c.args.peer was duty.1);
+        noted = λ since before was. rw c.note_seed.ensures (seed_noted plan since before t c.args.agenda.now c.args.peer was refl refl refl duty.1);
       },
       refl,
     )
@@ -37,7 +37,7 @@ returns-in-Err g c = λ plan p look low duty.
       record {
         took = record {
           turn = t;
-          kind_is = before_until c.args.now plan.until low;
+          kind_is = refl;
           is = (c.args.side.now.pass, look, e.answered, e.refusal);
           told = λ yes. sym (append-nil (g.L.Link.log c.args.side.now.link));
           failed = omega arith;
@@ -47,8 +47,9 @@ returns-in-Err g c = λ plan p look low duty.
           few_dropped = omega (arith, end.dropped);
           few_unsent = omega (arith, end.unsent);
         };
-        timely = λ since before was. seed_first plan since before c.args.agenda.now c.args.peer was duty.1;
-        noted = λ since before was. agenda_more plan since before t c.args.agenda.now c.note_seed.new.self was (rw c.note_seed.ensures refl) (rw c.note_seed.ensures refl) (rw c.note_seed.ensures (seed_gone plan c.args.agenda.now c.args.peer duty.1));
+        plans = refl;
+        timely = λ since before was. (low, seed_first plan since before c.args.agenda.now c.args.peer was duty.1);
+        noted = λ since before was. rw c.note_seed.ensures (seed_noted plan since before t c.args.agenda.now c.args.peer was refl refl refl duty.1);
       },
       refl,
     )

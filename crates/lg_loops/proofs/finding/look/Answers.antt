@@ -3,8 +3,7 @@ use Rattle.std.specs.List.{list_all}
 use Rattle.lg_loops.specs.Meaning.Turns.{Turn}
 use Rattle.lg_loops.specs.Meaning.Turns.Turn.{Looked, Unlooked}
 use Rattle.lg_loops.specs.Meaning.Pulling.{has_gone}
-use Rattle.lg_loops.proofs.TurnLaws.{before_until}
-use Rattle.lg_loops.proofs.PullingLaws.{agenda_more, look_time, look_decides}
+use Rattle.lg_loops.proofs.PullingLaws.{look_time, look_noted, no_look_noted}
 use Rattle.lg_loops.proofs.finding.look.Goals as goal
 
 pub returns-in_default : goal.returns-in_default
@@ -14,7 +13,7 @@ returns-in_default g c = λ p look low duty.
       record {
         took = record {
           turn = t;
-          kind_is = before_until c.args.now c.args.plan.now.until low;
+          kind_is = refl;
           is = rw c.in_default.ensures look;
           told = λ yes. sym (append-nil (g.L.Link.log c.args.side.now.link));
           failed = omega arith;
@@ -24,8 +23,9 @@ returns-in_default g c = λ p look low duty.
           few_dropped = omega (arith, on.dropped);
           few_unsent = omega (arith, on.unsent);
         };
-        timely = λ since before was. look_time c.args.plan.now since before c.args.agenda.now c.args.now was duty;
-        noted = λ since before was. agenda_more c.args.plan.now since before t c.args.agenda.now c.note_no_look.new.self was (rw c.note_no_look.ensures refl) (rw c.note_no_look.ensures refl) (rw c.note_no_look.ensures refl);
+        plans = refl;
+        timely = λ since before was. (low, look_time c.args.plan.now since before c.args.agenda.now c.args.now was duty);
+        noted = λ since before was. rw c.note_no_look.ensures (no_look_noted c.args.plan.now since before c.args.agenda.now c.args.now was);
       },
       refl,
     )
@@ -39,7 +39,7 @@ returns g c = λ p look low duty.
       record {
         took = record {
           turn = t;
-          kind_is = before_until c.args.now c.args.plan.now.until low;
+          kind_is = refl;
           is = record { between = c.args.side.now.pass; none_due = look; look = e.1; saw = refl };
           told = λ yes. sym (append-nil (g.L.Link.log c.args.side.now.link));
           failed = omega arith;
@@ -49,11 +49,13 @@ returns g c = λ p look low duty.
           few_dropped = omega (arith, on.dropped);
           few_unsent = omega (arith, on.unsent);
         };
+        plans = refl;
         timely = λ since before was. (
+          low,
           look_time c.args.plan.now since before c.args.agenda.now c.args.now was duty,
           λ all. c.wants_seeds-asks.ensures (ap (list_all has_gone) (c.as_slice.ensures.value ∙ e.0) ∙ all),
         );
-        noted = λ since before was. agenda_more c.args.plan.now since before t c.args.agenda.now c.note_look.new.self was (rw c.note_look.ensures refl) (rw c.note_look.ensures refl) (rw c.note_look.ensures (look_decides c.args.plan.now asks));
+        noted = λ since before was. rw c.note_look.ensures (look_noted c.args.plan.now since before c.args.agenda.now c.args.now c.others.new.pass.seen asks was);
       },
       refl,
     )

@@ -2,8 +2,7 @@ use Rattle.std.proofs.Common.{sym, refl, arith, append-nil}
 use Rattle.lg_agent.specs.Meaning.Calls.{receipt_of}
 use Rattle.lg_loops.specs.Meaning.Turns.{Turn}
 use Rattle.lg_loops.specs.Meaning.Turns.Turn.{Ticked, Unticked}
-use Rattle.lg_loops.proofs.TurnLaws.{before_until}
-use Rattle.lg_loops.proofs.PullingLaws.{agenda_more}
+use Rattle.lg_loops.proofs.PullingLaws.{agenda_same}
 use Rattle.lg_loops.proofs.ticking.tick.Goals as goal
 
 pub returns-in-Ok : goal.returns-in-Ok
@@ -13,7 +12,7 @@ returns-in-Ok g c = λ plan agenda p due low.
       record {
         took = record {
           turn = t;
-          kind_is = before_until c.args.now plan.until low;
+          kind_is = refl;
           is = (c.args.ticker.now.side.pass, due, c.in-Ok.ensures.answered, h.each);
           told = h.told;
           failed = omega (arith, h.failed_is, h.unsent_is);
@@ -23,8 +22,9 @@ returns-in-Ok g c = λ plan agenda p due low.
           few_dropped = omega (arith, c.of.ensures.dropped);
           few_unsent = c.of.ensures.few;
         };
-        timely = λ since before was. tt;
-        noted = λ since before was. agenda_more plan since before t agenda agenda was refl refl refl;
+        plans = refl;
+        timely = λ since before was. low;
+        noted = λ since before was. agenda_same plan since before t agenda was refl refl refl;
       },
       (c.words.new.self, c.words.ensures, refl),
     )
@@ -37,7 +37,7 @@ returns-in-Err g c = λ plan agenda p due low.
       record {
         took = record {
           turn = t;
-          kind_is = before_until c.args.now plan.until low;
+          kind_is = refl;
           is = (c.args.ticker.now.side.pass, due, e.answered, e.refusal);
           told = λ yes. sym (append-nil (g.L.Link.log c.args.ticker.now.side.link));
           failed = omega arith;
@@ -47,8 +47,9 @@ returns-in-Err g c = λ plan agenda p due low.
           few_dropped = omega (arith, end.dropped);
           few_unsent = omega (arith, end.unsent);
         };
-        timely = λ since before was. tt;
-        noted = λ since before was. agenda_more plan since before t agenda agenda was refl refl refl;
+        plans = refl;
+        timely = λ since before was. low;
+        noted = λ since before was. agenda_same plan since before t agenda was refl refl refl;
       },
       (c.words.new.self, c.words.ensures, refl),
     )

@@ -1,8 +1,7 @@
 use Rattle.std.proofs.Common.{sym, refl, arith, append-nil}
 use Rattle.lg_loops.specs.Meaning.Turns.{Turn, SeesNoneDue}
 use Rattle.lg_loops.specs.Meaning.Turns.Turn.{Paused, Unseen}
-use Rattle.lg_loops.proofs.TurnLaws.{before_until}
-use Rattle.lg_loops.proofs.PullingLaws.{agenda_more, idle_time}
+use Rattle.lg_loops.proofs.PullingLaws.{agenda_same, idle_time}
 use Rattle.lg_loops.proofs.ticking.tick_turn.Goals as goal
 
 pub returns-in-Err : goal.returns-in-Err
@@ -23,8 +22,9 @@ returns-in-Err g c = λ low.
           few_dropped = omega (arith, end.dropped);
           few_unsent = omega (arith, end.unsent);
         };
+        plans = refl;
         timely = λ since before was. tt;
-        noted = λ since before was. agenda_more c.args.plan.now since before t c.args.agenda.now c.args.agenda.now was refl refl refl;
+        noted = λ since before was. agenda_same c.args.plan.now since before t c.args.agenda.now was refl refl refl;
       },
       refl,
     )
@@ -43,6 +43,13 @@ returns-in-Seed g c = λ low.
     let e = c.in-Ok.ensures in
     let sees : SeesNoneDue c.args.ticker.now.side.pass c.args.now c.next_deadline.new.self = record { look = e.1; due = c.in-Ok.deadline; deadline = e.0; later = omega (arith, c.if-deadline-moment.false, c.milliseconds-moment.ensures.milliseconds) } in
     let acted = c.ask_seed.ensures c.args.plan.now c.args.ticker.now.side.pass sees low c.in-Seed.ensures in
+    (acted.0, rw acted.1 refl)
+
+pub returns-in-SeedInTurn : goal.returns-in-SeedInTurn
+returns-in-SeedInTurn g c = λ low.
+    let e = c.in-Ok.ensures in
+    let sees : SeesNoneDue c.args.ticker.now.side.pass c.args.now c.next_deadline.new.self = record { look = e.1; due = c.in-Ok.deadline; deadline = e.0; later = omega (arith, c.if-deadline-moment.false, c.milliseconds-moment.ensures.milliseconds) } in
+    let acted = c.ask_in_turn.ensures c.args.ticker.now.side.pass sees low c.in-SeedInTurn.ensures in
     (acted.0, rw acted.1 refl)
 
 pub returns-in-Look : goal.returns-in-Look
@@ -67,7 +74,7 @@ returns-in-Rest g c = λ low.
       record {
         took = record {
           turn = t;
-          kind_is = before_until c.args.now c.args.plan.now.until low;
+          kind_is = refl;
           is = sees;
           told = λ yes. sym (append-nil (g.L.Link.log c.args.ticker.now.side.link));
           failed = omega arith;
@@ -77,8 +84,9 @@ returns-in-Rest g c = λ low.
           few_dropped = omega (arith, on.dropped);
           few_unsent = omega (arith, on.unsent);
         };
-        timely = λ since before was. idle_time c.args.plan.now since before c.args.agenda.now c.args.now was c.in-Rest.ensures;
-        noted = λ since before was. agenda_more c.args.plan.now since before t c.args.agenda.now c.args.agenda.now was refl refl refl;
+        plans = refl;
+        timely = λ since before was. (low, idle_time c.args.plan.now since before c.args.agenda.now c.args.now was c.in-Rest.ensures);
+        noted = λ since before was. agenda_same c.args.plan.now since before t c.args.agenda.now was refl refl refl;
       },
       refl,
     )

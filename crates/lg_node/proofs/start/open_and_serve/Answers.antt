@@ -32,8 +32,21 @@ returns-clause-ran g c =
                   unsent = ready.unsent;
                   later = threads.result.1.0.1.end.unsent;
                   asked = begun.asked;
-                  received_so = rw (end.received, left.ensures.received, end.ticked, left.ensures.ticked, left.ensures.passes.0, ← begun.receiver_is, ← c.stall_of-stall.ensures, ← c.wait_of.ensures) threads.ensures.received;
-                  ticked_so = rw (end.ticked, left.ensures.ticked, left.ensures.passes.1, ← begun.ticker_is, ← c.in-Ok-begin.ensures.dice, ← c.in-Ok-begin.ensures.plan) threads.ensures.ticked;
+                  ran = rw (
+                    end.received,
+                    left.ensures.received,
+                    end.ticked,
+                    left.ensures.ticked,
+                    left.ensures.passes.0,
+                    left.ensures.passes.1,
+                    ← begun.receiver_is,
+                    ← begun.ticker_is,
+                    ← c.stall_of-stall.ensures,
+                    ← c.wait_of.ensures,
+                    ← c.in-Ok-begin.ensures.dice,
+                    ← c.in-Ok-begin.ensures.plan,
+                  )
+                      threads.ensures.ran;
                   counted = rw end.ticked left.ensures.counted;
                 };
             told = search rules;

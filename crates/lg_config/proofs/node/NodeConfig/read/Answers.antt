@@ -1,4 +1,4 @@
-use Rattle.std.proofs.Common.{◌≡◌, ℕ, List, Result, Ok, Err, IfOk, Some, None, ap, refl, subst, sym, ◌∙◌}
+use Rattle.std.proofs.Common.{◌≡◌, ℕ, true, List, Result, Ok, Err, IfOk, Some, None, ap, refl, subst, sym, ◌∙◌}
 use Rattle.std.specs.Result.{IsErrAnd}
 use Rattle.toml.specs.Data.{Members}
 use Rattle.toml.specs.View.{table_view}
@@ -11,7 +11,8 @@ use Rattle.lg_config.specs.declared.node.NodeConfig.{NodeConfig}
 use Rattle.lg_config.specs.Meaning.Answer.{IsAnswer, answer_of, document_of, meaning_of, unless_syntax}
 use Rattle.lg_config.specs.Meaning.NodeKeys.{own_broken}
 use Rattle.lg_config.specs.Support.Reading.{IsUnread, SaysUnread}
-use Rattle.lg_config.proofs.MeaningLaws.{within-meaning}
+use Rattle.lg_config.specs.Meaning.Status.{may_listen}
+use Rattle.lg_config.proofs.MeaningLaws.{guarded-meaning, within-meaning}
 use Rattle.lg_config.proofs.node.NodeConfig.read.Goals as goal
 
 -- the error that a `?` passes on
@@ -47,3 +48,8 @@ pub returns-clause-within : goal.returns-clause-within
 returns-clause-within c =
     subst (λ r. IfOk r (λ node. own_broken node ≡ None)) (sym c.in_ok-meaning_in.ensures)
     (within-meaning (table_view c.in_ok-table.table))
+
+pub returns-clause-guarded : goal.returns-clause-guarded
+returns-clause-guarded c =
+    subst (λ r. IfOk r (λ node. may_listen node.status node.status_open ≡ true)) (sym c.in_ok-meaning_in.ensures)
+    (guarded-meaning (table_view c.in_ok-table.table))

@@ -30,3 +30,7 @@ returns-in-Health-clause-state c = c.ask_health.ensures.state ∙ ap (happen_sta
 pub returns-in-Pull-clause-state : goal.returns-in-Pull-clause-state
 unfolding happen_state
 returns-in-Pull-clause-state c = c.pull.ensures.state ∙ ap (happen_state c.args.self.now) (sym c.in-Pull.is)
+
+pub returns-in-Leave-clause-state : goal.returns-in-Leave-clause-state
+unfolding happen_state
+returns-in-Leave-clause-state c = c.leave.ensures.state ∙ ap (happen_state c.args.self.now) (sym c.in-Leave.is)

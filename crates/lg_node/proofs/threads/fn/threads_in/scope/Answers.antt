@@ -1,7 +1,4 @@
 use Rattle.std.proofs.Common.{◌∙◌, ap, inl, inr, refl, subst}
-use Rattle.lg_loops.specs.Meaning.Turns.{line}
-use Rattle.lg_loops.specs.Meaning.Words.{DrawsEight}
-use Rattle.lg_loops.proofs.StretchLaws.{ticks_unstarted}
 use Rattle.lg_node.proofs.threads.fn.threads_in.scope.Goals.{in-Ok, in-Err}
 use Rattle.lg_node.proofs.threads.fn.threads_in.scope.Goals as goal
 
@@ -11,23 +8,19 @@ returns g c =
     let served = subst (λ w. g.X.Work.gives w c.join_or_do-served.result) (ap (λ p. p.work.value) c.start_if-serving.ensures.promised ∙ c.of-2.ensures) c.join_or_do-served.ensures in
     elim c.match-receiving.branch [
       | in-Ok w ↦ record {
-        received = rw w.both-is (inl w.join.ensures);
-        ticked = rw w.both-is w.tick_loop-ticked.ensures;
+        ran = rw (w.both-is, ← c.requires.bound.1, ← c.requires.bound.2) (inl (rw (c.requires.bound.1, c.requires.bound.2) w.join.ensures, w.tick_loop-ticked.ensures));
         watched = watched;
         served = served;
       }
       | in-Err w ↦ record {
-        received = rw (w.both-is, w.without_thread.ensures) (inr (
+        ran = rw (w.both-is, w.without_thread.ensures) (inr (
           record {
             was = w.spawn_with.result.end.why;
             ran = rw (← c.requires.bound.1, ← c.requires.bound.2, ← c.requires.bound.3, ← c.requires.start.1, ← c.requires.start.0) (rw w.in-Err.ensures.err at w.spawn_with.ensures);
             why = refl;
           },
-          w.unstarted.ensures.end,
+          record { same_link = rw w.unstarted.ensures.link refl; same_pass = w.unstarted.ensures.spent; ended = w.unstarted.ensures.end },
         ));
-        ticked =
-            rw (w.both-is, w.unstarted.ensures.link, w.unstarted.ensures.spent, w.unstarted.ensures.end) (ticks_unstarted DrawsEight c.captures.dice c.captures.plan g.L.Link.tells c.captures.shared.now.bound c.captures.shared.now.endless
-            (line (g.L.Link.log c.captures.ticker.link) (g.L.Link.failed c.captures.ticker.link)) c.captures.ticker.pass);
         watched = watched;
         served = served;
       }

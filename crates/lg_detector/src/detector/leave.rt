@@ -1,0 +1,124 @@
+//! The event Leave: this member leaves its group for good (this project's choice). The first one makes its own record
+//! Left, queues it, and drops the probe that runs: nobody is accused, and the score isn't marked. Some members, picked
+//! as helpers are, are told at once by packets that have this record alone: Gossips in version 3, and Pages in versions
+//! 1 and 2. A further leave does nothing.
+//!
+//! From then on this member probes nobody. All else goes on: it answers, it relays, its suspicions run out, and it
+//! gossips its news.
+//!
+//! Defined in: `specs/Meaning/Leave.antt`, `specs/Support/Leave.antt`, `specs/Meaning/Probing.antt`.
+//! Tested in: `lg_detector_tests/src/detector/leaving.rt`.
+ghost use Rattle.std.specs.Prelude.{◌≡◌, ◌<◌, ◌≤◌, length, None};
+ghost use Rattle.lg_rules.specs.Meaning.View.{changed};
+ghost use Rattle.lg_membership.specs.Support.State.{changed_by_leave};
+ghost use Rattle.lg_detector.specs.Meaning.Leave.{leave_body};
+ghost use Rattle.lg_detector.specs.Support.Leave.{leave_packets_state, leave_packets_to, leave_sends_state};
+ghost use Rattle.lg_detector.specs.Support.Leave.{leave_state, told_of_leave_state};
+ghost use Rattle.lg_detector.specs.Support.State.{depart, without_probe};
+ghost use Rattle.lg_detector.specs.Support.Step.{view_state};
+
+use super::facts::put_changed;
+use super::round::{scaled_interval, set_start};
+use super::{Detector, MAX_EVENTS};
+use crate::reply::{MAX_CHANGED, MAX_SENDS, Reply};
+use crate::sends::{Sends, make_slots};
+use arrayvec::ArrayVec;
+use lg_packet::Body;
+use lg_probe::{Helpers, MAX_HELPERS};
+use lg_rules::{Name, Record, Version};
+use lg_timers::{MAX_TIMERS, Timers};
+use lg_timing::Moment;
+
+/// The body of a packet that tells of a leave.
+fn leave_body(version: Version) -> Body
+    ensures { result ≡ leave_body version }
+{
+    match version {
+        Version::One | Version::Two => Body::Page,
+        Version::Three => Body::Gossip,
+    }
+}
+
+/// Cancels the timers of a probe, if one runs. The next round starts later then.
+fn drop_probe(timers: &mut Timers, probes: bool, later: u64)
+    requires { length timers.old < MAX_TIMERS }
+    ensures { timers.new ≡ without_probe probes later timers.old }
+{
+    if probes {
+        set_start(timers, later);
+    }
+}
+
+impl Detector {
+    /// This member leaves its group. It tells some members of it, unless it had left before.
+    pub(super) fn leave(&mut self, now: Moment, words: &[u32; 8], reply: &mut Reply)
+        requires { self.old.events < MAX_EVENTS }
+        ensures state { self.new ≡ leave_state now self.old }
+        ensures fired { reply.new.fired ≡ None }
+        ensures sends { reply.new.sends.items ≡ leave_sends_state now words.now self.old }
+        ensures differing { reply.new.changed.items
+            ≡ changed (view_state self.old) (view_state (leave_state now self.old)) }
+        ensures answer { reply.new.answer ≡ None }
+    {
+        reply.say_nothing();
+        self.come(now);
+        let has_left = self.parts.membership.has_left();
+        self.depart_into(&mut reply.changed);
+        if !has_left {
+            self.tell_leave(words, &mut reply.sends);
+        }
+    }
+
+    /// Departs. Overwrites `differing` with this member's own record, if it changed.
+    fn depart_into(&mut self, differing: &mut ArrayVec<Record, MAX_CHANGED>)
+        ensures state { self.new ≡ depart self.old }
+        ensures differing { differing.new.items ≡ changed (view_state self.old) (view_state (depart self.old)) }
+    {
+        // The proof needs what the invariant says of the state at the start.
+        let _ = &self.parts;
+        differing.clear();
+        let changed = self.depart();
+        put_changed(differing, changed);
+    }
+
+    /// Drops the probe that runs, and makes this member's own record Left. Returns that record, if it changed.
+    #[tactic(auto, unfolding(crate::specs::Support::State::depart))]
+    fn depart(&mut self) -> Option<Record>
+        ensures state { self.new ≡ depart self.old }
+        ensures changes { result ≡ changed_by_leave self.old.membership }
+    {
+        let parts = &mut *self.parts;
+        let now = parts.moment.milliseconds();
+        let later = now + scaled_interval(&parts.score, parts.membership.config());
+        drop_probe(&mut parts.timers, parts.round.is_some(), later);
+        parts.round = None;
+        parts.membership.leave()
+    }
+
+    /// Tells the members that the words pick that this member has left. Overwrites what `sends` held.
+    fn tell_leave(&self, words: &[u32; 8], sends: &mut Sends)
+        ensures { sends.new.items ≡ leave_packets_state words.now self.now }
+    {
+        let mut told = Helpers::new();
+        told.pick_any(&self.parts.order, MAX_HELPERS, words);
+        self.tell_leave_to(told.names(), sends);
+    }
+
+    /// Tells each of these that has a record that this member has left. Overwrites what `sends` held.
+    fn tell_leave_to(&self, names: &[Name], sends: &mut Sends)
+        requires { length names.now ≤ MAX_SENDS }
+        ensures { sends.new.items ≡ leave_packets_to names.now self.now }
+    {
+        let version = self.version();
+        let slots = &mut sends.slots;
+        make_slots(slots, names.len());
+        let mut count = 0;
+        for name in names {
+            if let Some(member) = self.record_of(name) {
+                self.write_own(member.addr, leave_body(version), &mut slots[count]);
+                count += 1;
+            }
+        }
+        sends.count = count;
+    }
+}
