@@ -14,7 +14,7 @@ from subprocess import DEVNULL, PIPE, Popen
 FIRST_PORT = 17400
 # How long a group is waited for at most, and how long it rests before it is measured at rest, in seconds.
 PATIENCE = 120.0
-CALM, REST = 35.0, 10.0
+CALM, REST = 35.0, 30.0
 # For how many seconds a node runs if nobody ends it before.
 LASTS = 600
 
