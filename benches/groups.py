@@ -10,6 +10,7 @@ from contextlib import contextmanager
 from dataclasses import dataclass, field
 from pathlib import Path
 from subprocess import DEVNULL, PIPE, Popen
+from typing import Generic, TypeVar
 
 FIRST_PORT = 17400
 # How long a group is waited for at most, and how long it rests before it is measured at rest, in seconds.
@@ -30,11 +31,18 @@ class Told:
     def take(self, data: bytes) -> None:
         *lines, self.rest = (self.rest + data).split(b"\n")
         for line in lines:
-            words = line.decode().split()
-            if len(words) >= 4 and words[1] == "record":
-                self.members[words[2]] = words[3]
-            elif len(words) == 2 and words[0] in ("join", "leave"):
-                self.members[words[1]] = "alive" if words[0] == "join" else "failed"
+            self.hear(line.decode().split())
+
+    def hear(self, words: list[str]) -> None:
+        """Takes the words of a line."""
+        if len(words) >= 4 and words[1] == "record":
+            self.members[words[2]] = words[3]
+        elif len(words) == 3 and words[1] == "forgotten":
+            self.members.pop(words[2], None)
+        elif len(words) == 2 and words[1] == "missed":
+            self.members.clear()
+        elif len(words) == 2 and words[0] in ("join", "leave"):
+            self.members[words[1]] = "alive" if words[0] == "join" else "failed"
 
     def seconds(self) -> float:
         """Its processor time so far."""
@@ -51,24 +59,22 @@ def sent() -> tuple[int, int]:
     return 0, 0
 
 
-class Group:
+Teller = TypeVar("Teller", bound=Told)
+
+
+class Nodes(Generic[Teller]):
     """Nodes that run, and what each has told. All that they write is read while something is waited for."""
 
-    def __init__(self, start: Callable[[str, int, int | None], list[str]], size: int):
-        self.names = [f"m{place:03}" for place in range(size)]
-        self.nodes: dict[str, Told] = {}
+    def __init__(self) -> None:
+        self.nodes: dict[str, Teller] = {}
         self.selector = selectors.DefaultSelector()
-        for place, name in enumerate(self.names):
-            if place == 1:
-                # A member of memberlist refuses to start if the one that it joins isn't there yet.
-                time.sleep(0.3)
-                self.begun = time.monotonic()
-            words = start(name, FIRST_PORT + place, FIRST_PORT if place else None)
-            process = Popen(words, stdout=PIPE, stderr=DEVNULL)
-            assert process.stdout
-            os.set_blocking(process.stdout.fileno(), False)
-            self.nodes[name] = Told(process)
-            self.selector.register(process.stdout, selectors.EVENT_READ, self.nodes[name])
+
+    def add(self, name: str, node: Teller) -> None:
+        output = node.process.stdout
+        assert output
+        os.set_blocking(output.fileno(), False)
+        self.nodes[name] = node
+        self.selector.register(output, selectors.EVENT_READ, node)
 
     def read(self, seconds: float) -> None:
         """Reads what comes, for so long."""
@@ -79,6 +85,28 @@ class Group:
                     key.data.take(data)
                 else:
                     self.selector.unregister(key.fileobj)
+                    key.data.process.stdout.close()
+
+    def end(self) -> None:
+        for node in self.nodes.values():
+            node.process.kill()
+        for node in self.nodes.values():
+            node.process.wait()
+
+
+class Group(Nodes[Told]):
+    """Nodes that are started at once, with the first as their seed."""
+
+    def __init__(self, start: Callable[[str, int, int | None], list[str]], size: int):
+        super().__init__()
+        self.names = [f"m{place:03}" for place in range(size)]
+        for place, name in enumerate(self.names):
+            if place == 1:
+                # A member of memberlist refuses to start if the one that it joins isn't there yet.
+                time.sleep(0.3)
+                self.begun = time.monotonic()
+            words = start(name, FIRST_PORT + place, FIRST_PORT if place else None)
+            self.add(name, Told(Popen(words, stdout=PIPE, stderr=DEVNULL)))
 
     def wait_until(self, since: float, holds: Callable[[Told], bool]) -> float:
         """How long after a moment it holds of each node, in seconds, or nan."""
@@ -121,12 +149,6 @@ class Group:
     def wrongly_failed(self) -> int:
         """How many living members somebody takes as failed."""
         return sum(it.members.get(name) == "failed" for it in self.nodes.values() for name in self.nodes)
-
-    def end(self) -> None:
-        for node in self.nodes.values():
-            node.process.kill()
-        for node in self.nodes.values():
-            node.process.wait()
 
 
 @dataclass

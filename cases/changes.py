@@ -45,11 +45,19 @@ class Lone:
             if not asked(ping(5, "b", claims[start:start + IN_A_PACKET]), self.port):
                 raise RuntimeError(f"no Ack came for the claims about t{start:03} and those behind it: {incarnation}")
 
+    def say(self, kind, incarnation, accuser=b""):
+        """Tells it a claim of a kind about t000 at an incarnation."""
+        place = self.silent.getsockname()[1]
+        if not asked(ping(5, "b", [claim(kind, "t000", place, incarnation, accuser)]), self.port):
+            raise RuntimeError(f"no Ack came for the claim of the kind {kind} about t000: {incarnation}")
+
     def accuse(self, incarnation):
         """Tells it that t000 is suspected by x at an incarnation."""
-        place = self.silent.getsockname()[1]
-        if not asked(ping(5, "b", [claim(2, "t000", place, incarnation, name_bytes("x"))]), self.port):
-            raise RuntimeError(f"no Ack came for the suspicion of t000: {incarnation}")
+        self.say(2, incarnation, name_bytes("x"))
+
+    def fail(self, incarnation):
+        """Tells it that t000 has failed at an incarnation."""
+        self.say(3, incarnation)
 
     def __enter__(self):
         return self

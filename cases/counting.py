@@ -7,7 +7,7 @@ from answers import difference
 from asking import asked_for, by_python
 from changes import QUIET, Lone
 from exposition import metrics_in
-from packets import HOST, claim, name_bytes, ping
+from packets import HOST, PING, claim, name_bytes, packet, ping
 from running import PATIENCE, asked, bound_socket, wait_for, wait_until
 
 # A member that nobody can send to: the system lets nobody send to all hosts who hasn't asked it for that.
@@ -15,7 +15,7 @@ NOWHERE = ("a", 1, "255.255.255.255")
 STOPPED_SECONDS = 2
 # Why a datagram is dropped, in the order in which the metrics have it.
 FAULTS = ["Short", "Magic", "Version", "Kind", "Name", "Count", "ClaimKind", "Incarnation", "Trailing", "Family",
-          "Unsigned", "Forged"]
+          "Unsigned", "Forged", "OtherGroup"]
 # A claim about c with an address of no family.
 NO_FAMILY = b"\x01" + name_bytes("c") + b"\x05" + bytes(10)
 
@@ -41,14 +41,14 @@ def growth(node, before):
 
 
 def metrics_count_what_happens(program):
-    """A stranger pings a node ten times, sends five packets whose first byte is another and one with an address of no
-    family, and says that it suspects the node: the metrics count this, and nothing else. To be suspected costs a point
-    of health (Lifeguard). A datagram is counted once it is sent, so the stranger may ask for the metrics before its
-    last Ack is counted."""
-    wanted = {"lg_datagrams_received_total": 17, "lg_datagrams_sent_total": 11, "lg_events_total": 11,
-              "lg_history_entries_total": 11, "lg_suspicions_refuted_total": 1, "lg_incarnation": 6,
+    """A stranger pings a node ten times, sends five packets whose first byte is another, one with an address of no
+    family and one of another group, which is an event, and says that it suspects the node: the metrics count this, and
+    nothing else. To be suspected costs a point of health (Lifeguard). A datagram is counted once it is sent, so the
+    stranger may ask for the metrics before its last Ack is counted."""
+    wanted = {"lg_datagrams_received_total": 18, "lg_datagrams_sent_total": 11, "lg_events_total": 12,
+              "lg_history_entries_total": 12, "lg_suspicions_refuted_total": 1, "lg_incarnation": 6,
               "lg_health_score": 1, 'lg_datagrams_dropped_total{fault="Magic"}': 5,
-              'lg_datagrams_dropped_total{fault="Family"}': 1}
+              'lg_datagrams_dropped_total{fault="Family"}': 1, 'lg_datagrams_dropped_total{fault="OtherGroup"}': 1}
     with Lone(program) as node:
         wait_until(lambda: are_answered(node), 5)
         before = samples(node)
@@ -58,6 +58,7 @@ def metrics_count_what_happens(program):
             for _ in range(5):
                 stranger.sendto(b"X" + ping(7, "b")[1:], (HOST, node.port))
             stranger.sendto(ping(7, "b", [NO_FAMILY], version=3), (HOST, node.port))
+            stranger.sendto(packet(PING, bytes([0, 0, 0, 7]) + name_bytes("b"), version=3, group="g"), (HOST, node.port))
         asked(ping(7, "b", [claim(2, "b", node.port, 5, name_bytes("z"))]), node.port)
         wait_until(lambda: growth(node, before) == wanted, 5)
         return difference("grown", growth(node, before), wanted)

@@ -52,6 +52,85 @@ def sixteen_members_join_by_one(program):
     return unless(simulated(program, script)[-len(wanted):] == wanted, "the tables differ")
 
 
+# ---- Names that are forgotten
+
+
+def told_to_z(member, now, sent, count):
+    """z asks a member for its table, and so many packets of the two are delivered."""
+    packets = range(sent + 1, sent + 1 + count)
+    return [f"pull z {now} {8001 + member}", *(f"deliver {packet} {now}" for packet in packets)]
+
+
+def opened_with_seeds(member, name):
+    """Opens a member with 16 seeds that no other has."""
+    seeds = (f"s{number:03}:{9000 + number}" for number in range(16 * member, 16 * member + 16))
+    return f"open {name} {8001 + member} 0 {' '.join(seeds)}"
+
+
+def told_of_a_stranger(program, forget_ms):
+    """What z writes of a Page with f14 and eleven of its seeds. It knows 254 others then: its own seeds, and f00 to f13
+    with theirs. Of these f05 and f03 left at 10, and f01 at 20."""
+    script = ["set wire 3", "set gossip_ms 0", f"set forget_ms {forget_ms}", opened_with_seeds(15, "z")]
+    script += [opened_with_seeds(member, f"f{member:02}") for member in range(15)]
+    sent = 0
+    # 18 records come in two Pages.
+    for member in range(14):
+        script += told_to_z(member, 0, sent, 4)
+        sent += 4
+    # A leaver tells eight, and then its first Page, which is full, tells z.
+    for member, now in ((5, 10), (3, 10), (1, 20)):
+        script += [f"leave f{member:02} {now}", *told_to_z(member, now, sent + 8, 2)]
+        sent += 8 + 3
+    script += told_to_z(14, 30, sent, 1)
+    before = simulated(program, script)
+    lines = simulated(program, [*script, f"deliver {sent + 2} 30"])[len(before):]
+    return [line for line in lines if line.startswith(("record", "forgot"))]
+
+
+def room_for_a_stranger(program):
+    """f14 takes the last place. Then those that left make room, one for each further name: first the one that left
+    first, and of two at one moment the one with the least name. When all of them are forgotten, further names are
+    ignored. If no name is ever forgotten, f14 alone is known."""
+    last = "record f14 alive 0 127.0.0.1:8015"
+    seeds = [f"record s{number} alive 0 127.0.0.1:{9000 + number}" for number in (224, 225, 226)]
+    wanted = {60_000: [last, *seeds, "forgot f03", "forgot f05", "forgot f01"], 0: [last]}
+    return [f"{forget_ms}: {got}" for forget_ms, lines in wanted.items()
+            if (got := told_of_a_stranger(program, forget_ms)) != lines]
+
+
+def told_of_a_joiner(program, forget_ms):
+    """What z writes of w, which asks it twice, and whom it has forgotten then. z knows 255 others: its own seeds, those
+    from f00 to f13 with theirs, and u. They are alive when w asks for the first time. When it asks again, f00 has
+    failed, which z probed first, and no other: a suspicion among 256 members lasts 2408 ms with these keys."""
+    script = ["set wire 3", "set gossip_ms 0", "set indirect 0", "set alpha 1", "set confirmations 0",
+              f"set forget_ms {forget_ms}", opened_with_seeds(15, "z"), "open w 8015 0 u:9999"]
+    script += [opened_with_seeds(member, f"f{member:02}") for member in range(14)]
+    sent = 0
+    for member in range(14):
+        script += told_to_z(member, 0, sent, 4)
+        sent += 4
+    # The Page of w has u, which takes the last place, and w.
+    script += told_to_z(14, 0, sent, 2)
+    told = []
+    # Each round of z has its start, the end of the time for an Ack, and its end; the next one starts at once.
+    for now, ticks in ((0, ()), (3410, (0, 500, 1000, 1000, 1500, 2000, 2000, 2500, 3000, 3000, 3408))):
+        script += [f"tick z {moment}" for moment in ticks] + [f"pull w {now} 8016"]
+        before = simulated(program, script)
+        sent = sum(line.startswith("send ") for line in before)
+        script.append(f"deliver {sent} {now}")
+        lines = simulated(program, script)[len(before):]
+        told.append([line for line in lines if line.startswith(("record", "forgot"))])
+    return told
+
+
+def room_once_one_has_failed(program):
+    """A member joins one whose table is full of members that are alive, and is ignored. When the first of them has
+    failed, it asks again, and takes the place of that one. If no name is ever forgotten, it is ignored again."""
+    wanted = {60_000: [[], ["record w alive 0 127.0.0.1:8015", "forgot f00"]], 0: [[], []]}
+    return [f"{forget_ms}: {got}" for forget_ms, lines in wanted.items()
+            if (got := told_of_a_joiner(program, forget_ms)) != lines]
+
+
 # ---- Packets that are lost
 
 
@@ -169,5 +248,6 @@ def at_most_255_names(program):
     return faults
 
 
-CASES = [sixteen_members_join_by_one, only_the_dead_member_fails, a_script_of_a_mebibyte, a_flood_of_names,
-         a_relay_too_many, fronts_of_packets_are_short, the_longest_packet, at_most_255_names]
+CASES = [sixteen_members_join_by_one, room_for_a_stranger, room_once_one_has_failed, only_the_dead_member_fails,
+         a_script_of_a_mebibyte, a_flood_of_names, a_relay_too_many, fronts_of_packets_are_short, the_longest_packet,
+         at_most_255_names]

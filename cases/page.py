@@ -18,6 +18,8 @@ SERVICES = pathlib.Path(__file__).resolve().parent.parent / "examples" / "servic
 
 # Rounds and suspicions are short, so that a death is soon known.
 KEYS = "interval_ms = 200\ntimeout_ms = 100\nalpha = 3\npull_ms = 1000\n"
+# By then the page shows a death.
+FORGETS = "forget_ms = 6000\n"
 NAMES = ["a", "b", "c"]
 # A variable of the environment: where a picture of the page with a dead member is to be kept.
 PICTURE = "LG_PICTURE"
@@ -55,6 +57,18 @@ def fault_of_a_death(group, browser):
     return None
 
 
+def fault_of_forgetting(browser):
+    """What is wrong with the page of b when b forgets c, which is dead: c is no longer among its members, and that is
+    one more change."""
+    told = browser.value(CHANGES)
+    if browser.until(ROWS, "a alive, b alive", 10) is None:
+        return f"b has forgotten c, and its page shows {browser.value(ROWS)}"
+    is_counted = browser.until(f"{HEALTH}.includes('2 of 2 members live')", True, 2)
+    if is_counted is None or browser.value(CHANGES) != told + 1:
+        return f"b has forgotten c, and its page shows {[browser.value(it) for it in (HEALTH, CHANGES)]}"
+    return None
+
+
 def fault_of_a_new_start(group, browser):
     """What is wrong with the page of b when b ends and is started again: it says so, and follows it again."""
     group.nodes["b"].kill()
@@ -69,14 +83,15 @@ def fault_of_a_new_start(group, browser):
 
 
 def page_follows_the_node(program):
-    """A Chromium shows the page of b: within two seconds that c has died, that b has ended, and what b knows once both
-    run again. Without a Chromium it is skipped."""
+    """A Chromium shows the page of b: within two seconds that c has died, then that b has forgotten it, that b has
+    ended, and what b knows once both run again. Without a Chromium it is skipped."""
     path = needed(*BROWSERS)
-    with AskedGroup(program, NAMES, KEYS) as group:
+    with AskedGroup(program, NAMES, f"{KEYS}{FORGETS}") as group:
         if wait_until(group.is_whole, PATIENCE) is None:
             return group.difference(dict.fromkeys(NAMES, "alive"))
         with Browser(path, f"http://127.0.0.1:{group.status['b']}/") as browser:
-            return fault_of_a_death(group, browser) or fault_of_a_new_start(group, browser)
+            return (fault_of_a_death(group, browser) or fault_of_forgetting(browser)
+                    or fault_of_a_new_start(group, browser))
 
 
 def page_reads_as_text(program):

@@ -7,8 +7,9 @@ import threading
 import time
 from contextlib import suppress
 
-from asking import Link, asked_for, by_python, request
-from changes import Lone
+from asking import Link, asked_for, by_python, changes_after, request
+from changes import QUIET, Lone, wait_for_changes
+from counting import samples
 from group import AskedGroup
 from packets import HOST
 from running import PATIENCE, end_with_parent, free_status_ports, wait_until
@@ -73,8 +74,9 @@ def record_wanted(member):
 
 
 def change_wanted(change):
-    """The line of a change."""
-    return f"{change['moment_ms']} {record_wanted(change)}\n"
+    """The line of a change: that a member has this record, or that it was forgotten."""
+    altered = f"forgotten {change['name']}" if change["status"] == "forgotten" else record_wanted(change)
+    return f"{change['moment_ms']} {altered}\n"
 
 
 def members_wanted(port):
@@ -172,6 +174,51 @@ def changes_are_watched(program):
     ends = [it.end() for it in watchers]
     got = [(status, told) for status, _, told in ends]
     return None if got == 2 * [(7, "lg: no answer\n")] else f"once the node had ended, they ended with {ends}"
+
+
+FORGET_MS = 1000
+# What a change says of t000 once it is forgotten, beside its version and its moment.
+FORGOTTEN = {"name": "t000", "status": "forgotten", "incarnation": None, "address": None, "port": None, "accuser": None}
+
+
+def fault_of_forgetting(node):
+    """What is wrong with what a node answers that hears that t000 is alive, and then that it has failed: a second later
+    it says that it forgot it, knows it no longer, and counts that."""
+    version = changes_after(node.status, 0)["version"]
+    node.tell(0)
+    node.fail(0)
+    changes = wait_for_changes(node, version, 3)["changes"]
+    said = [{key: it[key] for key in FORGOTTEN} for it in changes]
+    if [it["status"] for it in said] != ["alive", "failed", "forgotten"] or said[2] != FORGOTTEN:
+        return f"got {changes}"
+    took = changes[2]["moment_ms"] - changes[1]["moment_ms"]
+    if not FORGET_MS <= took < 2 * FORGET_MS:
+        return f"it forgot it {took} ms after it had failed"
+    got = members_wanted(node.status), by_python(node.status, "/v1/members/t000").code
+    if got != (f"record b alive 0 {HOST}:{node.port}\n", 404):
+        return f"once it had forgotten it, its members were {got}"
+    is_counted = wait_until(lambda: samples(node)["lg_members_forgotten_total"] == 1, 5) is not None
+    return None if is_counted else f"its metrics don't count it: {samples(node)}"
+
+
+def forgotten_members_are_told(program):
+    """A node that forgets members tells it in its changes and its metrics, in the lines of `watch`, and in its own if
+    it is followed. A member that comes back is told as any other."""
+    keys = f"{QUIET}forget_ms = {FORGET_MS}\n"
+    with Lone(program, "--follow", "--until-input-ends", keys=keys, has_input=True) as node:
+        watcher = Watcher(program, node.status)
+        if fault := fault_of_forgetting(node):
+            return fault
+        node.tell(0)
+        wanted = [change_wanted(it) for it in wait_for_changes(node, 0, 5)["changes"]]
+        wait_until(lambda: len(watcher.lines) == 5, 10)
+        node.node.close_input()
+        _, output, _ = node.node.end()
+    told, own = watcher.end(), output.splitlines(keepends=True)
+    if told != (7, wanted, "lg: no answer\n"):
+        return f"`watch` ended with {told}, wanted {wanted}"
+    # Its first look may be late, and then has some changes in one. Behind the last one stands how long it stood still.
+    return None if own[-3:-1] == wanted[-2:] else f"the node wrote {own}, wanted {wanted[-2:]}"
 
 
 PARKED = 192

@@ -6,19 +6,21 @@ Python's own reader of TOML says what a document is. It reads TOML 1.0. Where 1.
 import re
 import tomllib
 
-from fuzzing.numbers import DEFAULTS, NUMBERS, fault_of, suspicion_range, timeout
+from fuzzing.numbers import DEFAULTS, GROUP_FAULT, NUMBERS, fault_of, suspicion_range, timeout
 from fuzzing.wire import is_name
 
 MOST_BYTES = 65_536
 MOST_DEPTH = 80
 SYNTAX, KEY, VALUE = 12, 13, 14
 STATUS, STATUS_OPEN, STATUS_NOT_LOOPBACK, KEY_FILE = 18, 19, 20, 21
-TEXT_KEYS = ("name", "address", "key_file")
+TEXT_KEYS = ("name", "address", "key_file", "group")
 INTEGER_KEYS = ("port", "dice")
 # Of the node's own numbers: the least, the greatest, the default and the number of the fault.
 OWN_NUMBERS = {"pull_ms": (0, 3_600_000, 30_000, 16), "stall_ms": (0, 60_000, 100, 17)}
 DEFAULT_TEXTS = {"address": "127.0.0.1", "port": 7946, "dice": 1}
-KEYS = {*TEXT_KEYS, *INTEGER_KEYS, *NUMBERS, *OWN_NUMBERS, "seeds", "status", "status_open"}
+# The configuration's numbers that a file may have: all but the first number of a probe.
+FILE_NUMBERS = {key: row for key, row in NUMBERS.items() if key != "first"}
+KEYS = {*TEXT_KEYS, *INTEGER_KEYS, *FILE_NUMBERS, *OWN_NUMBERS, "seeds", "status", "status_open"}
 SHOWN_MEMBERS = (4, 16, 64, 256)
 # What TOML 1.1 or another reader of dates may take though Python's reader doesn't.
 UNSURE = re.compile(rb"\\[ex]|\{|\d\d:\d\d|\d{4}-\d\d|^\xef\xbb\xbf")
@@ -138,6 +140,13 @@ def key_file_of(document):
     return path
 
 
+def group_of(document):
+    """The group, None if there is none."""
+    group = document.get("group")
+    must(group is None or is_name(group.encode(errors="replace")), GROUP_FAULT)
+    return group
+
+
 def meaning_of(document):
     """The values of a document, defaults filled in, by their keys. Raises the first fault."""
     must(all(key in KEYS and is_of_type(key, value) for key, value in document.items()) and "name" in document, KEY)
@@ -153,18 +162,20 @@ def meaning_of(document):
     values["status"], values["status_open"] = status_of(document)
     values["key_file"] = key_file_of(document)
     must(fault is None, fault)
+    values["group"] = group_of(document)
     return values | {"address": ".".join(map(str, address)), "seeds": seeds}
 
 
 def shown(values):
     """The lines of `lg check`."""
-    order = ["name", "address", "port", "dice", "seeds", *NUMBERS, *OWN_NUMBERS, "status", "status_open",
-             "key_file"]
+    order = ["name", "address", "port", "dice", "seeds", *FILE_NUMBERS, *OWN_NUMBERS, "status", "status_open",
+             "key_file", "group"]
     seeds = ", ".join(f"{name}@{place_text(place)}" for name, place in values["seeds"])
     texts = values | {"seeds": seeds or "none", "status": place_text(values["status"]) if values["status"] else "none",
-                      "status_open": str(values["status_open"]).lower(), "key_file": values["key_file"] or "none"}
+                      "status_open": str(values["status_open"]).lower(), "key_file": values["key_file"] or "none",
+                      "group": values["group"] or "none"}
     defaults = DEFAULT_TEXTS | numbers_of({}) | {"seeds": "none", "status": "none", "status_open": "false"}
-    defaults |= {} if values["key_file"] else {"key_file": "none"}
+    defaults |= {key: "none" for key in ("key_file", "group") if not values[key]}
     lines = [f"{key} = {texts[key]}{' (default)' if texts[key] == defaults.get(key) else ''}" for key in order]
     for live in SHOWN_MEMBERS:
         least, most, counted = suspicion_range(values, live)

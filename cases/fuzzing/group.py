@@ -5,7 +5,7 @@ import heapq
 from dataclasses import dataclass, field
 
 from fuzzing.known import GONE
-from fuzzing.numbers import suspicion_range
+from fuzzing.numbers import NUMBERS, suspicion_range
 from fuzzing.script import MOST_MEMBERS, Cluster
 from fuzzing.wire import ALIVE, ONE, THREE, TWO, VERSIONS
 
@@ -59,11 +59,15 @@ def config_of(dice, size):
     """Numbers under which a group comes to rest soon."""
     interval = dice.choice([100, 200, 1000])
     factors = [1, 1, 2, 5] if size <= MOST_MEMBERS else [1, 1, 2]
+    wire, greatest = dice.choice([ONE, TWO, THREE, THREE]), NUMBERS["first"][1]
+    group = {"group": dice.choice(["g", "grn", 32 * "n"])} if wire == THREE and dice.random() < 0.4 else {}
     return {"interval_ms": interval, "timeout_ms": interval // dice.choice([2, 2, 3, 4]), "alpha": dice.choice(factors),
             "beta": dice.choice(factors), "indirect": dice.choice([0, 1, 3, 8]), "max_score": dice.choice([0, 2, 8]),
             "confirmations": dice.choice([0, 1, 3, 5]), "lambda": dice.choice([1, 4, 10]),
-            "nack_thousandths": dice.choice([1, 500, 800, 999]), "wire": dice.choice([ONE, TWO, THREE, THREE]),
-            "gossip_ms": dice.choice([0, 10, interval // 5, interval]), "gossip_to": dice.choice([1, 3, 8])}
+            "nack_thousandths": dice.choice([1, 500, 800, 999]), "wire": wire,
+            "gossip_ms": dice.choice([0, 10, interval // 5, interval]), "gossip_to": dice.choice([1, 3, 8]),
+            "forget_ms": dice.choice([0, 0, max(1000, 5 * interval), max(1000, 10 * interval)]),
+            "first": dice.choice([1, greatest - dice.randrange(20)]), **group}
 
 
 def troubles_of(dice, names, length, may_restart):
@@ -226,8 +230,10 @@ class Group:
         for key, number in self.plan.config.items():
             self.write(f"set {key} {number}")
         for name in self.names:
-            if self.dice.random() < 0.15:
+            if "group" not in self.plan.config and self.dice.random() < 0.15:
                 self.write(f"set wire {self.dice.choice(VERSIONS)}")
+            if self.dice.random() < 0.2:
+                self.write(f"set forget_ms {self.dice.choice([0, self.plan.config['forget_ms']])}")
             late = self.dice.randrange(length) if self.dice.random() < self.plan.late else 0
             if late:
                 self.plan_for(late, "start", name)
@@ -239,23 +245,26 @@ class Group:
 
     def agrees(self):
         """Whether all that run say the same of all: each that runs and didn't leave is alive at its own incarnation and
-        address, and each other one is gone at the same one. If nobody runs, nobody differs."""
+        address, and each other one is gone at the same one. If all that run have left, nobody probes, and nobody
+        differs."""
         views = [{it.member: it for it in self.member(name).view()} for name in self.alive]
-        if not views:
-            return True
         here = self.those_here()
-        if any(view.keys() != views[0].keys() for view in views) or not here <= views[0].keys():
-            return False
-        for name in views[0]:
-            records = [view[name] for view in views]
-            if name in here:
-                wanted = self.member(name.decode()).own()
-                if any((it.status, it.incarnation, it.address) != (ALIVE, wanted.incarnation, wanted.address)
-                       for it in records):
-                    return False
-            elif any(it.status not in GONE or it.incarnation != records[0].incarnation for it in records):
-                return False
-        return True
+        names = here.union(*views)
+        return not here or all(
+            (self.are_here if name in here else self.are_gone)([view.get(name) for view in views]) for name in names)
+
+    def are_here(self, records):
+        """Whether all of some records say that a member is alive, as it says itself."""
+        wanted = records[0] and self.member(records[0].member.decode()).own()
+        return all(it and (it.status, it.incarnation, it.address) == (ALIVE, wanted.incarnation, wanted.address)
+                   for it in records)
+
+    def are_gone(self, records):
+        """Whether all of some records say that a member is gone, at the same incarnation. In a group that forgets, it
+        may be known to some alone, at any incarnation."""
+        if self.plan.config["forget_ms"]:
+            return all(it is None or it.status in GONE for it in records)
+        return all(it and it.status in GONE and it.incarnation == records[0].incarnation for it in records)
 
     def those_here(self):
         """The names of those that run and didn't leave."""

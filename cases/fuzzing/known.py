@@ -5,9 +5,9 @@ from dataclasses import dataclass, replace
 from fuzzing.numbers import MOST_OTHERS, suspicion_range, timeout
 from fuzzing.wire import ALIVE, FAILED, LEFT, MOST_CLAIMS, MOST_INCARNATION, SUSPECT, THREE, Claim, is_told
 
-ROUND_END, SUSPICION, DIRECT, RELAY_NACK, RELAY_END, ROUND_START, NEWS = range(1, 8)
+ROUND_END, SUSPICION, DIRECT, RELAY_NACK, RELAY_END, ROUND_START, FORGET, NEWS = range(1, 9)
 TIMER_WORDS = {ROUND_END: "round-end", SUSPICION: "suspicion", DIRECT: "direct", RELAY_NACK: "relay-nack",
-               RELAY_END: "relay-end", ROUND_START: "round-start", NEWS: "gossip"}
+               RELAY_END: "relay-end", ROUND_START: "round-start", FORGET: "forget", NEWS: "gossip"}
 # The statuses of a member that is gone.
 GONE = (FAILED, LEFT)
 
@@ -34,6 +34,8 @@ class Known:
         self.number = self.score = 0
         self.ousted = self.has_left = False
         self.records, self.queue, self.suspicions = {}, {}, {}
+        # The names that the event forgot, in order.
+        self.forgotten = []
         # The deadline of each timer that is set, by its kind and by whom it is about.
         self.timers = {(ROUND_START, 0): now}
 
@@ -66,14 +68,15 @@ class Known:
         """Hears a claim."""
         if claim.member == self.name:
             return self.take_own(claim)
-        record = self.records.get(claim.member)
-        if record is None and len(self.records) == MOST_OTHERS:
+        if self.passes_over(claim) or not self.make_place(claim.member):
             return None
+        record = self.records.get(claim.member)
         if record and claim.rank() <= record.rank():
             return self.accuse(claim, record)
         self.records[claim.member] = claim
         if is_told:
             self.tell(claim)
+        self.set_forget(claim)
         self.suspicions.pop(claim.member, None)
         self.timers.pop((SUSPICION, claim.member), None)
         if claim.status == SUSPECT:
@@ -129,6 +132,43 @@ class Known:
         """Tells those who are behind what this member is, unless that waits to be told."""
         if self.has_version_three() and self.name not in self.waiting():
             self.tell(self.own())
+
+    # ---- Forgetting
+
+    def passes_over(self, claim):
+        """Whether a claim is ignored, since it says that a member is gone whose name isn't known. If it weren't, those
+        who forget a name early would hear of it again from those who forget it late, for ever."""
+        return self.config["forget_ms"] > 0 and claim.status in GONE and claim.member not in self.records
+
+    def make_place(self, name):
+        """Forgets the name that is due to be forgotten first, if all places are taken and this name has none. Gives
+        whether it has a place or can have one."""
+        if name in self.records or len(self.records) < MOST_OTHERS:
+            return True
+        due = self.first_to_forget()
+        if due is not None:
+            self.forget(due)
+        return due is not None
+
+    def first_to_forget(self):
+        """The name that is to be forgotten first, and of those at one moment the least. None if none is to be."""
+        due = min(((deadline, name) for (kind, name), deadline in self.timers.items() if kind == FORGET), default=None)
+        return due and due[1]
+
+    def set_forget(self, claim):
+        """Sets anew when a name is forgotten whose record has become this one: not at all if it isn't gone."""
+        self.timers.pop((FORGET, claim.member), None)
+        if self.config["forget_ms"] > 0 and claim.status in GONE:
+            self.timers[FORGET, claim.member] = self.now + self.config["forget_ms"]
+
+    def forget(self, name):
+        """Forgets a name: its record, its claim in the queue and its timers. What a probe, a suspicion of another or a
+        relay has of it stays, since that is the name alone."""
+        self.forgotten.append(name)
+        for kept in (self.records, self.queue, self.suspicions):
+            kept.pop(name, None)
+        for kind in (SUSPICION, FORGET):
+            self.timers.pop((kind, name), None)
 
     # ---- What is told
 

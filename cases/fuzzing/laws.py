@@ -1,14 +1,21 @@
 """What has to hold of any group, by what its members wrote. Nothing here is taken from the model of a detector."""
 
-from fuzzing.wire import ACK, GOSSIP, PING_REQ, STATUS_WORDS, read
+from fuzzing.wire import ACK, FAILED, GOSSIP, PAGE, PING_REQ, STATUS_WORDS, read
+
+# The words of the statuses of a member that is gone.
+GONE = ("failed", "left")
 
 
 def events_of(script, output):
-    """Each line of a script that is an event or a question, as words, with the words of the lines that it wrote."""
+    """Each line of a script that is a setting, an event or a question, as words, with the words of the lines that it
+    wrote. A setting writes none."""
     rest = iter(output)
     for line in script:
         words = line.split(" ")
-        if words[0] in ("", "#", "set", "table"):
+        if words[0] in ("", "#", "table"):
+            continue
+        if words[0] == "set":
+            yield words, []
             continue
         lines = []
         for wrote in rest:
@@ -24,8 +31,9 @@ class Witness:
     """Follows the events of a group, and notes what breaks a law.
 
     `known` has what each member knows of others, the incarnation and the status. `accused` has who had a round without
-    an Ack of whom, at which incarnation. `failed` has whose suspicion ran out at which incarnation. `left` has who left
-    ever, and `leavers` those of them who weren't started again.
+    an Ack of whom, or told in a Page that it failed, at which incarnation. `failed` has whose suspicion ran out at
+    which incarnation. `left` has who left ever, and `leavers` those of them who weren't started again. `forgetful` has
+    who forgets those who are gone, and `gentle` who sends version three. `page` is the Page that is heard.
     """
 
     def __init__(self):
@@ -33,26 +41,33 @@ class Witness:
         self.known, self.probes = {}, {}
         self.accused, self.failed = set(), set()
         self.left, self.leavers = set(), set()
+        self.settings, self.forgetful, self.gentle, self.page = {}, set(), set(), None
 
     def note(self, fault):
         self.faults.append(fault)
 
     def take(self, words, lines):
-        """Takes an event and its lines."""
-        if lines[0][0] == "nobody":
+        """Takes a setting, or an event and its lines."""
+        if words[0] == "set":
+            self.settings[words[1]] = words[2]
+        if not lines or lines[0][0] == "nobody":
             return
         name = self.opened(words) if words[0] == "open" else words[1]
         if words[0] == "leave":
             self.left.add(name)
             self.leavers.add(name)
             self.probes.pop(name, None)
+        self.page = None
         if words[0] == "deliver":
-            sender, to, packet = self.sent[int(words[1]) - 1]
+            _, to, packet = self.sent[int(words[1]) - 1]
             name = self.names[to]
-            self.hear(name, sender, packet)
+            self.hear(name, packet)
         fired = next((line for line in lines if line[0] == "fired"), None)
         if fired:
             self.fire(name, fired)
+        for line in lines:
+            if line[0] == "forgot":
+                self.known[name].pop(line[1], None)
         for line in lines:
             if line[0] == "record":
                 self.record(name, line[1], line[2], int(line[3]), line[6] if len(line) > 5 else None)
@@ -74,9 +89,15 @@ class Witness:
         self.known[name][name] = (0, "alive")
         self.probes.pop(name, None)
         self.leavers.discard(name)
+        for are, is_one in ((self.forgetful, self.settings.get("forget_ms", "0") != "0"),
+                            (self.gentle, self.settings.get("wire") == "3")):
+            are.discard(name)
+            if is_one:
+                are.add(name)
         return name
 
-    def hear(self, name, _, packet):
+    def hear(self, name, packet):
+        self.page = packet if packet.kind == PAGE else None
         probe, is_meant = self.probes.get(name), packet.receiver.decode() in ("", name)
         if (probe and packet.kind == ACK and is_meant and packet.number == probe[0]
                 and packet.sender.decode() in probe[2]):
@@ -90,14 +111,21 @@ class Witness:
             self.failed.add((fired[2], incarnation))
         if fired[1] == "round-end":
             _, target, _, is_acked = self.probes.pop(name)
-            if not is_acked:
+            if not is_acked and target in self.known[name]:
                 self.accused.add((name, target, self.known[name][target][0]))
+        if fired[1] == "forget" and self.known[name].get(fired[2], (0, ""))[1] not in GONE:
+            self.note(f"{name} forgets {fired[2]}, which isn't gone")
 
     def record(self, name, member, status, incarnation, accuser):
         """A record of a member changed."""
         before = self.known[name].get(member)
         if before and before[0] > incarnation:
             self.note(f"the incarnation of {member} fell from {before[0]} to {incarnation} at {name}")
+        if not before and status in GONE and name in self.forgetful:
+            self.note(f"{name} takes it that {member} is gone, which it didn't know")
+        if (status == "failed" and before and before[1] not in GONE and self.page and name in self.gentle
+                and self.page.sender.decode() != member):
+            self.note(f"{name} takes it of a table of {self.page.sender.decode()} that {member} failed")
         self.known[name][member] = incarnation, status
         self.judge(name, member, status, incarnation, accuser)
 
@@ -107,7 +135,7 @@ class Witness:
         if status == "left" and member not in self.left:
             self.note(f"{name} says that {member} left, and it didn't")
         if status == "suspect" and (accuser, member, incarnation) not in self.accused:
-            self.note(f"{name} says that {accuser} suspects {member} at {incarnation}, after no round without an Ack")
+            self.note(f"{name} says that {accuser} suspects {member} at {incarnation}, for no reason")
         if status == "failed" and (member, incarnation) not in self.failed and member not in self.left:
             self.note(f"{name} says that {member} failed at {incarnation}, and no suspicion of it ran out")
 
@@ -116,10 +144,12 @@ class Witness:
         probe = self.probes.get(name)
         if probe and packet.kind == PING_REQ and packet.number == probe[0] and to in self.names:
             probe[2].add(self.names[to])
-        if packet.kind == GOSSIP and self.known[name].get(self.names.get(to), (0, ""))[1] in ("failed", "left"):
+        if packet.kind == GOSSIP and self.known[name].get(self.names.get(to), (0, ""))[1] in GONE:
             self.note(f"{name} gossips to {self.names[to]}, which is gone")
         for claim in packet.claims:
             accuser = claim.accuser.decode() if claim.accuser else None
+            if packet.kind == PAGE and claim.status == FAILED:
+                self.accused.add((name, claim.member.decode(), claim.incarnation))
             self.judge(name, claim.member.decode(), STATUS_WORDS[claim.status], claim.incarnation, accuser)
 
 

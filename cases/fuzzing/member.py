@@ -5,11 +5,13 @@ It keeps plain lists and dictionaries, and looks through all of them each time.
 
 from dataclasses import dataclass, field, replace
 
-from fuzzing.known import DIRECT, GONE, NEWS, RELAY_END, RELAY_NACK, ROUND_END, ROUND_START, SUSPICION, Known
+from fuzzing.known import DIRECT, FORGET, GONE, NEWS, RELAY_END, RELAY_NACK, ROUND_END, ROUND_START, SUSPICION, Known
 from fuzzing.wire import (
     ACK, ALIVE, FAILED, GOSSIP, MOST_CLAIMS, NACK, PAGE, PING, PING_REQ, PULL, SUSPECT, THREE, Claim, Packet)
 
 MOST_RELAYS = 64
+# The greatest number of a probe or a relay, behind which comes 1.
+MOST_NUMBER = 4_294_967_295
 WORDS = 8
 # To how many a member says that it leaves.
 MOST_TOLD = 8
@@ -36,6 +38,7 @@ class Reply:
     answer: str | None = None
     sends: list = field(default_factory=list)
     changed: list = field(default_factory=list)
+    forgotten: list = field(default_factory=list)
     ousted: bool = False
     next: int = 0
 
@@ -52,7 +55,8 @@ class Member(Known):
 
     def __init__(self, name, address, now, config, seeds=()):
         super().__init__(name, address, now, config)
-        self.sequence, self.probe, self.relays, self.chosen = 0, None, {}, set()
+        self.number_due, self.probe, self.relays, self.chosen = config["first"], None, {}, set()
+        self.group = config.get("group", b"")
         for seed, place in seeds:
             self.take(Claim(ALIVE, seed, place, 0), is_told=False)
         self.tell_arrival()
@@ -62,10 +66,10 @@ class Member(Known):
     # ---- Packets
 
     def send(self, to, kind, number=0, target=b"", address=b"", claims=(), receiver=b""):
-        """Sends a packet. It names no group, and in version three alone it names a receiver."""
+        """Sends a packet. In version three alone it names a receiver, and this member's group if that has one."""
         version, claims = self.config["wire"], tuple(map(self.as_told, claims))
-        packet = Packet(version, kind, self.name, number, target, address, claims,
-                        receiver=receiver if version == THREE else b"")
+        packet = Packet(version, kind, self.name, number, target, address, claims, self.group,
+                        receiver if version == THREE else b"")
         self.reply.sends.append((to, packet))
 
     def send_ping(self, to, number, target):
@@ -94,12 +98,12 @@ class Member(Known):
     def event(self, now, does, *words):
         """Takes an event of this moment, and gives the reply."""
         self.now = max(self.now, now)
-        self.reply, before, own = Reply(), dict(self.records), self.own()
+        self.reply, self.forgotten, before, own = Reply(), [], dict(self.records), self.own()
         does(*words)
         self.set_news()
-        changed = [record for name, record in self.records.items() if before.get(name) is not record]
+        changed = [record for name, record in self.records.items() if before.get(name) != record]
         changed += [self.own()] if self.own() != own else []
-        self.reply.changed = sorted(changed, key=lambda it: it.member)
+        self.reply.changed, self.reply.forgotten = sorted(changed, key=lambda it: it.member), self.forgotten
         self.reply.ousted, self.reply.next = self.ousted, self.least_deadline()
         return self.reply
 
@@ -140,7 +144,13 @@ class Member(Known):
         self.reply.fired = kind, subject
         {ROUND_START: self.start_round, DIRECT: self.ask_helpers, ROUND_END: self.end_round,
          SUSPICION: self.end_suspicion, RELAY_NACK: self.send_nack, RELAY_END: self.end_relay,
-         NEWS: self.tell_news}[kind](subject, words)
+         FORGET: self.forget_due, NEWS: self.tell_news}[kind](subject, words)
+
+    def next_number(self):
+        """The number of the next probe or relay."""
+        number = self.number_due
+        self.number_due = 1 if number == MOST_NUMBER else number + 1
+        return number
 
     def scaled(self, key):
         return self.config[key] * (self.score + 1)
@@ -159,16 +169,16 @@ class Member(Known):
             return
         target = candidates[words[0] % len(candidates)]
         self.chosen.add(target)
-        self.sequence += 1
-        self.probe = Probe(self.sequence, target)
+        self.probe = Probe(self.next_number(), target)
         self.timers[DIRECT, 0] = self.now + self.scaled("timeout_ms")
         self.timers[ROUND_END, 0] = self.now + self.scaled("interval_ms")
-        self.send_ping(self.records[target].address, self.sequence, target)
+        self.send_ping(self.records[target].address, self.probe.number, target)
 
     def ask_helpers(self, _, words):
-        """Asks helpers about the target, and nobody if a PingReq can't tell where that is."""
-        target = self.records[self.probe.target]
-        others = [name for name in self.others() if name != target.member] if self.can_tell(target.address) else []
+        """Asks helpers about the target, and nobody if it was forgotten or a PingReq can't tell where it is."""
+        target, others = self.records.get(self.probe.target), []
+        if target and self.can_tell(target.address):
+            others = [name for name in self.others() if name != target.member]
         self.probe.helpers = picked(words[:self.config["indirect"]], others)
         for helper in self.probe.helpers:
             to = self.records[helper].address
@@ -179,13 +189,21 @@ class Member(Known):
         self.timers.pop((DIRECT, 0), None)
         if not probe.is_acked:
             self.mark(1 if probe.nacks.issuperset(probe.helpers) else 2)
-            record = self.records[probe.target]
-            if record.status not in GONE:
+            record = self.records.get(probe.target)
+            if record and record.status not in GONE:
                 self.take(replace(record, status=SUSPECT, accuser=self.name))
         self.timers[ROUND_START, 0] = self.now
 
     def end_suspicion(self, name, _):
         self.take(replace(self.records[name], status=FAILED, accuser=None))
+
+    def forget_due(self, name, _):
+        self.forget(name)
+
+    def forget(self, name):
+        """Forgets a name, so that a round may choose it again if it is known again."""
+        super().forget(name)
+        self.chosen.discard(name)
 
     def send_nack(self, relay, _):
         _, asker, number, name = self.relays[relay]
@@ -239,11 +257,11 @@ class Member(Known):
     # ---- Hearing
 
     def respond(self, source, packet):
-        """Takes the claims of a packet in their order, and then its body. A packet that names a group is dropped."""
+        """Takes the claims of a packet in their order, and then its body. One of another group is dropped."""
         if self.drops(packet):
             return
         for claim in packet.claims:
-            self.take(claim)
+            self.hear_claim(claim, packet)
         if packet.kind == PING and packet.target == self.name:
             self.send_ack(source, packet.number, packet.sender)
         elif packet.kind == PING_REQ:
@@ -257,9 +275,22 @@ class Member(Known):
         elif packet.kind == PAGE and len(packet.claims) == MOST_CLAIMS[packet.version]:
             self.send_pull(source, packet.claims[-1].member)
 
+    def hear_claim(self, claim, packet):
+        """Hears a claim of a packet."""
+        self.take(self.merged(claim, packet.sender) if packet.kind == PAGE else claim)
+
+    def merged(self, claim, sender):
+        """How a claim of a Page is heard. In version three the claim that a member failed which isn't gone is heard as
+        an accusation by the Page's sender, unless it is about the sender itself. Else two sides of a network that is
+        whole again would fail each other's members by their tables."""
+        record = self.records.get(claim.member)
+        is_doubt = claim.status == FAILED and claim.member != sender and record and record.status not in GONE
+        return replace(claim, status=SUSPECT, accuser=sender) if is_doubt and self.has_version_three() else claim
+
     def drops(self, packet):
-        """Whether a packet is of a group. A member has none so far."""
-        return packet.group != b""
+        """Whether a packet isn't of this member's group. Those who have none hear what names none, so all of the first
+        two versions."""
+        return packet.group != self.group
 
     def is_meant(self, packet):
         """Whether an Ack or a Nack is for this member: one that names no receiver is."""
@@ -271,12 +302,12 @@ class Member(Known):
         elif len(self.relays) == MOST_RELAYS:
             self.send(source, NACK, packet.number, receiver=packet.sender)
         else:
-            self.sequence += 1
-            self.relays[self.sequence] = packet.target, source, packet.number, packet.sender
+            number = self.next_number()
+            self.relays[number] = packet.target, source, packet.number, packet.sender
             wait = self.config["timeout_ms"] * self.config["nack_thousandths"] // 1000
-            self.timers[RELAY_NACK, self.sequence] = self.now + wait
-            self.timers[RELAY_END, self.sequence] = self.now + self.config["interval_ms"]
-            self.send_ping(packet.address, self.sequence, packet.target)
+            self.timers[RELAY_NACK, number] = self.now + wait
+            self.timers[RELAY_END, number] = self.now + self.config["interval_ms"]
+            self.send_ping(packet.address, number, packet.target)
 
     def hear_nack(self, packet):
         probe = self.probe

@@ -1,16 +1,20 @@
 """The numbers of a configuration and what follows from them, by the tables of docs/FORMATS.md and Lifeguard."""
 
+from fuzzing.wire import THREE
+
 # Of each number: the least, the greatest, the default and the number of its fault.
 NUMBERS = {
     "interval_ms": (10, 60_000, 1000, 1), "timeout_ms": (1, 59_999, 500, 2), "indirect": (0, 8, 3, 3),
     "max_score": (0, 20, 8, 4), "alpha": (1, 20, 5, 5), "beta": (1, 20, 6, 6), "confirmations": (0, 5, 3, 7),
     "lambda": (1, 10, 4, 8), "nack_thousandths": (1, 999, 800, 9), "history_limit": (2, 1_000_000, 20_000, 10),
-    "wire": (1, 3, 1, 15), "gossip_ms": (10, 60_000, 200, 23), "gossip_to": (1, 8, 3, 24),
+    "wire": (1, 3, 1, 15), "forget_ms": (1000, 2_592_000_000, 0, 22), "gossip_ms": (10, 60_000, 200, 23),
+    "gossip_to": (1, 8, 3, 24), "first": (1, 4_294_967_295, 1, 25),
 }
 # The numbers that may be 0 too, which turns off what they are about.
-MAY_BE_OFF = ("gossip_ms",)
+MAY_BE_OFF = ("forget_ms", "gossip_ms")
 DEFAULTS = {key: row[2] for key, row in NUMBERS.items()}
 SEEDS_FAULT = 11
+GROUP_FAULT = 26
 MOST_SEEDS = 16
 MOST_OTHERS = 255
 
@@ -30,10 +34,13 @@ def is_in_range(config, key):
 
 
 def fault_of(config, name, seeds):
-    """The number of the first fault of a configuration, None if it has none. Seeds are names."""
+    """The number of the first fault of a configuration, None if it has none. Seeds are names. A member of a group sends
+    version three."""
     faults = [row[3] for key, row in NUMBERS.items() if not is_in_range(config, key)]
     if len(seeds) > MOST_SEEDS or len(set(seeds)) < len(seeds) or name in seeds:
         faults.append(SEEDS_FAULT)
+    if config.get("group") and config["wire"] != THREE:
+        faults.append(GROUP_FAULT)
     return min(faults, default=None)
 
 

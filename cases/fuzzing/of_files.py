@@ -6,7 +6,7 @@ from fuzzing.making import damaged
 from fuzzing.runs import ANYTHING, Case, Outcome, text_of
 
 NAMES = ["b", "a", "c", "A.z_-9", "n" * 32, "n" * 33, "", "a b", "é", "a@b", "-"]
-ROWS = numbers.NUMBERS | files.OWN_NUMBERS | {"port": (1, 65535, 7946), "dice": (0, 2**63 - 1, 1)}
+ROWS = files.FILE_NUMBERS | files.OWN_NUMBERS | {"port": (1, 65535, 7946), "dice": (0, 2**63 - 1, 1)}
 OCTETS = ["0", "1", "7", "127", "010", "255", "256", "0" * 14 + "10", "0" * 15 + "10", "", "-1", "+1", " 1", "1e1"]
 PATHS = ["group.key", "", "x" * 255, "x" * 256, "a\nb", "\x7f", "é", "/a b/~", "none"]
 PORTS = ["1", "7946", "65535", "65536", "0", "00001", "", "x", "-1"]
@@ -90,7 +90,7 @@ def wild_value(dice, key):
         return whole_number(dice, number_near(dice, ROWS[key]))
     made = {"name": lambda: spelled(dice, dice.choice(NAMES)), "address": lambda: spelled(dice, address(dice)),
             "seeds": lambda: seeds(dice), "status": lambda: spelled(dice, place(dice)),
-            "key_file": lambda: spelled(dice, dice.choice(PATHS))}
+            "key_file": lambda: spelled(dice, dice.choice(PATHS)), "group": lambda: spelled(dice, dice.choice(NAMES))}
     return made.get(key, lambda: dice.choice(["true", "false", *VALUES]))()
 
 
@@ -110,7 +110,7 @@ class Files(RunKind):
     wrong_rules = (
         (files, "MOST_DEPTH", 0), (files, "TEXT_KEYS", ("name",)), (files, "SYNTAX", 13), (files, "VALUE", 11),
         (files, "SHOWN_MEMBERS", (4, 16, 32, 256)), (files, "STATUS_NOT_LOOPBACK", 19),
-        (files, "KEY_FILE", 20),
+        (files, "KEY_FILE", 20), (files, "GROUP_FAULT", 25),
         (files, "OWN_NUMBERS", files.OWN_NUMBERS | {"pull_ms": (1, 3_600_000, 30_000, 16)}),
         (numbers, "MOST_SEEDS", 15), (numbers, "MAY_BE_OFF", ()),
         (numbers, "RATIOS", [[900], [0, 1000], *numbers.RATIOS[2:]]))
@@ -122,7 +122,9 @@ class Files(RunKind):
         dice.shuffle(keys)
         # Mostly one key or two have a value that may be wrong, so that no other fault hides theirs.
         wild = set(dice.sample(keys, min(len(keys), dice.choice([0, 1, 1, 1, 2, len(keys)]))))
-        lines = [line(dice, key, key in wild) for key in keys]
+        # A member of a group mostly sends version three.
+        fixed = ["wire = 3"] if "group" in keys and dice.random() < 0.9 else []
+        lines = fixed + [line(dice, key, key in wild) for key in keys if key != "wire" or not fixed]
         if dice.random() < 0.05:
             other = dice.choice(["", "# words", "[table]", "[[rows]]", "\t", "=", "\r"])
             lines.insert(dice.randrange(len(lines) + 1), other)

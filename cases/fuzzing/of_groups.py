@@ -5,6 +5,7 @@ from dataclasses import dataclass, replace
 from fuzzing import group, known, member, numbers, wire
 from fuzzing.kinds import RunKind
 from fuzzing.laws import broken_laws
+from fuzzing.of_scripts import counts_from_0, forgets_always, takes_failed
 from fuzzing.runs import Case, Outcome, first_difference, test_of, text_of
 from fuzzing.script import MOST_MEMBERS, Cluster, written
 from fuzzing.wire import MOST_CLAIMS, ONE, THREE
@@ -51,17 +52,22 @@ class Groups(RunKind):
         (member.Member, "mark", lambda *_: None), (member.Member, "accuse", lambda *_: None),
         (member.Member, "hear_nack", lambda *_: None), (numbers, "LOGARITHMS", numbers.LOGARITHMS | {10: 999}),
         (member.Member, "has_news", lambda *_: True), (member.Member, "tell_arrival", lambda *_: None),
-        (member.Member, "stay_left", member.Member.refute), (member.Member, "drop_probe", lambda *_: None))
+        (member.Member, "stay_left", member.Member.refute), (member.Member, "drop_probe", lambda *_: None),
+        (member.Member, "hear_claim", takes_failed), (member.Member, "set_forget", forgets_always),
+        (member.Member, "merged", lambda it, claim, _: claim), (member.Member, "next_number", counts_from_0))
     # Detectors that break a law: the self-test runs small groups of them, and looks at the laws alone. One goes by
     # the status before the incarnation, one hears no Ack, one takes each suspect as failed at once, one refutes
-    # nothing, one gossips to those who are gone, and one probes after it left.
+    # nothing, one gossips to those who are gone, one probes after it left, one takes it that a stranger is gone though
+    # it forgets those who are, one forgets who has come back, and one fails whom a Page says to have failed.
     lawless = (
         (wire.Claim, "rank", lambda it: (it.status, it.incarnation)),
         (member.Member, "hear_ack", lambda *_: None),
         (member.Member, "set_suspicion", lambda it, name: it.end_suspicion(name, None)),
         (member.Member, "take_own", lambda *_: None),
         (member.Member, "hearers", lambda it: sorted(it.records)),
-        (member.Member, "candidates", lambda it: it.others()))
+        (member.Member, "candidates", lambda it: it.others()),
+        (member.Member, "passes_over", lambda *_: False), (member.Member, "set_forget", forgets_always),
+        (member.Member, "merged", lambda it, claim, _: claim))
 
     def __init__(self, has_player=False):
         self.has_player = has_player

@@ -1,10 +1,12 @@
 """Cases of scripts, for `lg sim`: random lines over a few members, of which one is often damaged."""
 
+from dataclasses import replace
+
 from fuzzing import known, member, numbers, script
 from fuzzing.kinds import RunKind
 from fuzzing.making import NAMES, damaged
 from fuzzing.runs import Case, Outcome, text_of
-from fuzzing.wire import ALIVE, FAILED, MOST_CLAIMS, ONE, SUSPECT, THREE, TWO, VERSIONS
+from fuzzing.wire import ALIVE, FAILED, MOST_CLAIMS, ONE, PAGE, SUSPECT, THREE, TWO, VERSIONS
 
 MOST_LINES = 150
 CROWD = [b"m%02d" % number for number in range(20)]
@@ -23,6 +25,10 @@ class Maker:
         self.names = dice.choice([dice.sample(NAMES, dice.choice([2, 3, 4, len(NAMES)])), CROWD])
         # How many members are opened before much else happens.
         self.early = dice.choice([2, 2, 3, len(self.names)])
+        # How likely members leave, and are opened so that they forget them.
+        self.leaves, self.forgets = dice.choice([(0.01, 0.1), (0.04, 0.8)])
+        # Whether members have groups, of which most have the first.
+        self.groups = dice.sample(NAMES, 3) if dice.random() < 0.15 else []
         # Members come near each other in time, so that timers of several are due at once.
         self.pace = dice.choice([0, 1, 20, 200, 1000])
 
@@ -47,14 +53,24 @@ class Maker:
     def set(self):
         key = self.dice.choice(sorted(numbers.NUMBERS))
         least, most, default, _ = numbers.NUMBERS[key]
-        values = [least, most, default, self.dice.randint(least, min(most, 3 * default))]
+        values = [least, most, default, self.dice.randint(least, max(least, min(most, 3 * default)))]
         value = self.dice.choice(values + [0] * (key in numbers.MAY_BE_OFF))
         value = self.dice.choice([least - 1 if least else most + 1, most + 1]) if self.dice.random() < 0.01 else value
         return f"set {key} {value}"
 
     def set_wire(self):
-        """The version of the packets of those that are opened later."""
-        return f"set wire {self.dice.choice([*VERSIONS, THREE])}"
+        """The version of the packets of those that are opened later. If they have a group it is mostly the third, since
+        the others are faults."""
+        has_group = self.cluster.config["group"] and self.dice.random() < 0.98
+        return f"set wire {THREE if has_group else self.dice.choice([*VERSIONS, THREE])}"
+
+    def set_group(self):
+        """The group of those that are opened later."""
+        return f"set group {self.dice.choice([self.groups[0]] * 5 + self.groups).decode()}"
+
+    def set_forget(self):
+        """After how long those forget names that are opened later, of whom some forget none."""
+        return f"set forget_ms {self.dice.choice([0, 1000, 1000, self.dice.randint(1000, 3000), 60_000])}"
 
     def open(self):
         """An opening, seldom of a name that is open, which is a fault."""
@@ -92,6 +108,15 @@ class Maker:
                                  f"health {word} {self.moment()}", f"table {word}",
                                  f"pull {word} {self.moment()} {self.port()}", "", "# words"])
 
+    def set_some(self):
+        """Adds settings for the member that is opened next."""
+        if self.groups and self.dice.random() < 0.7:
+            self.add(self.set_group().encode())
+        if self.dice.random() < 0.5 or self.groups:
+            self.add(self.set_wire().encode())
+        if self.dice.random() < self.forgets:
+            self.add(self.set_forget().encode())
+
     def make(self, count):
         """Adds some settings, and so many lines."""
         for _ in range(self.dice.randrange(8)):
@@ -100,16 +125,55 @@ class Maker:
             opened = len(self.cluster.members)
             is_early = opened < self.early and self.dice.random() < 0.8
             if is_early or opened < len(self.names) and self.dice.random() < 0.03:
-                if self.dice.random() < 0.5:
-                    self.add(self.set_wire().encode())
+                self.set_some()
                 line = self.open()
-            elif opened and self.dice.random() < 0.01:
+            elif opened and self.dice.random() < self.leaves:
                 line = self.leave()
             elif self.cluster.sent or self.dice.random() < 0.01:
                 line = self.dice.choice([self.tick, self.tick, self.deliver, self.deliver, self.question])()
             else:
                 line = self.dice.choice([self.tick, self.question])()
             self.add(line.encode())
+
+
+class FullMaker(Maker):
+    """Makes a script in which the first member comes to know as many names as it may. It learns them of the others, of
+    whom some leave, and then forgets some of these for others."""
+
+    def __init__(self, dice):
+        super().__init__(dice)
+        self.names = [b"z", *(b"f%02d" % number for number in range(script.MOST_MEMBERS - 1))]
+        self.early = len(self.names)
+
+    def open_all(self):
+        """Opens all members. Each has seeds that no other has."""
+        for place, name in enumerate(self.names):
+            if self.dice.random() < 0.2:
+                self.add(self.set_wire().encode())
+            seeds = (f"s{number:03}:{8000 + number}" for number in range(16 * place, 16 * place + 16))
+            self.add(f"open {name.decode()} {7001 + place} {self.moment()} {' '.join(seeds)}".encode())
+
+    def learn(self, other, is_whole):
+        """The first member asks another for its table, and hears all its pages, or the first."""
+        self.add(f"pull z {self.moment()} {7001 + self.names.index(other)}".encode())
+        heard, most = 0, len(self.names) if is_whole else 2
+        for _ in range(most):
+            sent = len(self.cluster.sent)
+            if sent == heard:
+                break
+            self.add(f"deliver {sent} {self.moment()}".encode())
+            heard = sent
+
+    def make(self, count):
+        self.add(self.set_forget().encode())
+        self.add(b"set wire 3")
+        self.open_all()
+        for other in self.dice.sample(self.names[1:], len(self.names) - 1):
+            self.learn(other, True)
+            if self.dice.random() < 0.3:
+                self.add(f"leave {other.decode()} {self.moment()}".encode())
+                self.learn(other, False)
+        super().make(count)
 
 
 def with_damage(dice, lines):
@@ -137,14 +201,50 @@ def doubts_itself(it, claim):
     return claim.status in (SUSPECT, FAILED) and claim.incarnation <= it.number
 
 
+def takes_failed(it, claim, packet, hear_claim=member.Member.hear_claim):
+    """What is not to be done with a claim of a packet: that a member failed is taken of a Page though its name isn't
+    known, as if it had been alive."""
+    if packet.kind == PAGE and claim.status == FAILED and claim.member not in (it.name, *it.records):
+        it.take(replace(claim, status=ALIVE))
+        it.take(claim)
+    else:
+        hear_claim(it, claim, packet)
+
+
+def forgets_always(it, claim):
+    """What is not to be done if a record changes: the timer stays of a member that has come back."""
+    if it.config["forget_ms"] > 0 and claim.status in known.GONE:
+        it.timers[known.FORGET, claim.member] = it.now + it.config["forget_ms"]
+
+
+def merges_all(it, claim, packet):
+    """What is not to be done with a claim: a packet of any kind is heard as a Page."""
+    it.take(it.merged(claim, packet.sender))
+
+
+def least_gone(it):
+    """Who is not to be forgotten first: the one with the least name."""
+    return min((name for kind, name in it.timers if kind == known.FORGET), default=None)
+
+
+def counts_from_0(it):
+    """What is not the next number of a probe: behind the greatest comes 0."""
+    number = it.number_due
+    it.number_due = (number + 1) % 2**32
+    return number
+
+
 class Scripts(RunKind):
     """Each script is a case."""
 
     name = "scripts"
     # The last ones are about news: it is waited for though there is none, and goes to those who are gone; an arrival
     # isn't told, nor is a doubt opposed, or one at the own incarnation is; and an Ack begins with a record that is
-    # alive, or with none. And they are about those who left: they probe or refute, and a leave ends no probe, or is
-    # told to seven.
+    # alive, or with none. Then they are about those who left: they probe or refute, and a leave ends no probe, or is
+    # told to seven. And they are about forgetting: what has failed is taken of a Page though its name isn't known, or
+    # all that is gone is; the timer stays of one that has come back; the least name makes room; and one that was
+    # chosen stays so. A Failed in a Page fails, or one in another packet doesn't; all groups are one, or those of a
+    # group send version two; and behind the greatest number comes 0.
     wrong_rules = (
         (script, "MOST_MEMBERS", 17), (script, "MOST_WORD", 2**32), (script, "MOST_MOMENT", 10**15 + 1),
         (script, "MOST_SEEDS", 15), (known, "MOST_CLAIMS", MOST_CLAIMS | {ONE: 5, TWO: 5}),
@@ -157,10 +257,15 @@ class Scripts(RunKind):
         (member.Member, "doubts", doubts_itself), (member, "ACK_BUDDIES", (ALIVE, SUSPECT, FAILED)),
         (member, "ACK_BUDDIES", ()), (member.Member, "candidates", lambda it: it.others()),
         (member.Member, "stay_left", member.Member.refute), (member.Member, "drop_probe", lambda *_: None),
-        (member, "MOST_TOLD", 7))
+        (member, "MOST_TOLD", 7), (member.Member, "hear_claim", takes_failed),
+        (member.Member, "passes_over", lambda *_: False), (member.Member, "set_forget", forgets_always),
+        (member.Member, "first_to_forget", least_gone), (member.Member, "forget", known.Known.forget),
+        (member.Member, "merged", lambda it, claim, _: claim), (member.Member, "hear_claim", merges_all),
+        (member.Member, "drops", lambda *_: False), (numbers, "THREE", TWO),
+        (member.Member, "next_number", counts_from_0))
 
     def make(self, dice):
-        maker = Maker(dice)
+        maker = (FullMaker if dice.random() < 0.04 else Maker)(dice)
         maker.make(dice.choice([5, 20, 60, MOST_LINES]))
         lines = maker.lines or [b""]
         lines = with_damage(dice, lines) if dice.random() < 0.4 else lines

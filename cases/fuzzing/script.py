@@ -73,6 +73,7 @@ def reply_lines(reply, first_packet):
     lines += [f"send {count} {address_text(to)} {spelled(packet).hex()}"
               for count, (to, packet) in enumerate(reply.sends, first_packet)]
     lines += [f"record {record.text()}" for record in reply.changed]
+    lines += [f"forgot {forgotten.decode()}" for forgotten in reply.forgotten]
     return lines + ["ousted"] * reply.ousted + [f"next {reply.next}"]
 
 
@@ -83,7 +84,7 @@ class Cluster:
     """
 
     def __init__(self, most_members=None, may_restart=False):
-        self.members, self.sent, self.config = {}, [], dict(DEFAULTS)
+        self.members, self.sent, self.config = {}, [], DEFAULTS | {"group": b""}
         self.most_members, self.may_restart = most_members or MOST_MEMBERS, may_restart
         self.at_place = {}
 
@@ -109,8 +110,8 @@ class Cluster:
         return self.members[word]
 
     def run_set(self, key, value):
-        value = number(value)
-        must(key.decode(errors="replace") in NUMBERS, "value")
+        value = name(value) if key == b"group" else number(value)
+        must(key == b"group" or key.decode(errors="replace") in NUMBERS, "value")
         self.config[key.decode()] = value
         return []
 

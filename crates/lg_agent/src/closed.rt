@@ -93,7 +93,7 @@ impl Closed {
             → targets_after (take to (f ++ events self.now.history))
             ≡ targets_after (take (max from self.now.base) (f ++ events self.now.history)) ++ names.items) }
         ensures none { IfOk result (λ names. to ≤ max from self.now.base → names.items ≡ []) }
-        // While the others stay the same p members, any 2p - 1 choices in a row have each of them.
+        // While the others that aren't gone stay the same p names, any 2p - 1 choices in a row have each of them.
         ensures windows { (f : List Happened) → StandsFor self.now.summary f
             → is_accepted (f ++ events self.now.history) ≡ true
             → IfOk result (λ names. max from self.now.base ≤ to

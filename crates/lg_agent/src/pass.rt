@@ -134,8 +134,8 @@ impl<'a, A: AgentName> Pass<'a, A> {
         })
     }
 
-    /// As [`Pass::datagram`], with the reply written over `reply`. Returns the position of the call's entry, and
-    /// whether the packet is a Page.
+    /// As [`Pass::datagram`], with the reply written over `reply`. Returns the position of the call's entry, whether
+    /// the packet is a Page, and which group it names.
     pub fn datagram_into<R: Wait>(
         &mut self,
         rt: &R,
@@ -147,7 +147,7 @@ impl<'a, A: AgentName> Pass<'a, A> {
     ) -> Result<HeardPacket, Refusal>
         ensures answered { IfOk result (λ heard. (p : Read) × (packet_of bytes.now ≡ Ok p)
             × IsCall self.old (Heard now source p) (receipt_of heard.place reply.new) self.new
-            × (heard.is_page ≡ is_page p.body)) }
+            × (heard.is_page ≡ is_page p.body) × (heard.group ≡ p.group)) }
         ensures refused { OnErr result ((self.new ≡ self.old) × (reply.new ≡ reply.old)) }
         ensures bad { (f : Broken) → packet_of bytes.now ≡ Err f → result ≡ Err (BadPacket f) }
         ensures only { (f : Broken) → result ≡ Err (BadPacket f) → packet_of bytes.now ≡ Err f }
@@ -158,13 +158,18 @@ impl<'a, A: AgentName> Pass<'a, A> {
             Err(fault) => return Err(Refusal::BadPacket(fault)),
         };
         let is_page = matches!(packet.body, Body::Page);
+        let group = packet.group;
         let event = Event::Heard {
             now,
             source,
             packet,
         };
         let place = self.call_into(rt, alloc, &event, reply)?;
-        Ok(HeardPacket { place, is_page })
+        Ok(HeardPacket {
+            place,
+            is_page,
+            group,
+        })
     }
 
     /// Asks for the record of a name.

@@ -3,6 +3,7 @@
 //! Defined in: this file, `specs/Meaning/Calls.antt`.
 //! Tested in: `lg_agent_tests/src/agent/calls.rt`.
 use lg_detector::Reply;
+use lg_rules::Name;
 
 /// What an answered call gives.
 #[derive(Debug, Drop)]
@@ -20,4 +21,6 @@ pub struct HeardPacket {
     pub place: u64,
     /// Whether the packet is a Page, which answers a Pull.
     pub is_page: bool,
+    /// The group that the packet names, if it names one.
+    pub group: Option<Name>,
 }

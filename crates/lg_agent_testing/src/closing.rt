@@ -1,7 +1,7 @@
 //! How an agent ends.
 use lg_agent::{Agent, AgentName, CloseFault, Closed, Spent, Unclosed};
 use lg_detector::{Detector, Reply};
-use lg_testing::is_same_reply;
+use lg_detector_testing::is_same_reply;
 use std::alloc::Global;
 use std::sync::Wait;
 

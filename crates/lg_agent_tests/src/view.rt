@@ -32,10 +32,15 @@ fn ping_of_a() -> Event {
     says(0, alive(b'c', 0))
 }
 
-/// A tick at 0, whose words are all 0.
-fn tick() -> Event {
+/// A tick at a moment in milliseconds, whose words are all 0.
+fn tick_at(now: u64) -> Event {
     Event::Tick {
-        now: at(0),
+        now: at(now),
         words: [0; 8],
     }
+}
+
+/// A tick at 0.
+fn tick() -> Event {
+    tick_at(0)
 }

@@ -2,21 +2,36 @@
 //!
 //! Defined in: `specs/Meaning/Changes.antt`.
 //! Tested in: `lg_answers_tests/src/answer.rt`.
-ghost use Rattle.std.specs.Prelude.{◌≡◌, [], ◌∷◌, ◌++◌, IfOk, List, OnOk, string_bytes};
+ghost use Rattle.std.specs.Prelude.{◌≡◌, [], ◌∷◌, ◌++◌, IfOk, List, OnOk, codes, string_bytes};
 ghost use Rattle.std.specs.List.{flat_map};
 ghost use Rattle.lg_changes.specs.declared.change.Change.{Change as Changed};
-ghost use Rattle.lg_changes.specs.Meaning.Changes.{change_at};
+ghost use Rattle.lg_changes.specs.Meaning.Changes.{recorded_at};
 ghost use Rattle.lg_changes.specs.Meaning.Kept.{KeepsNewest};
 ghost use Rattle.lg_answers.specs.Meaning.Changes.{as_changes, change_json, changes_body, changes_json};
+ghost use Rattle.lg_answers.specs.Meaning.Changes.{forgotten_fields};
 ghost use Rattle.lg_answers.specs.Meaning.Members.{behind_comma, comma_separated};
 
 use crate::health::truth_word;
 use crate::members::{put_fields, put_moment};
 use crate::snapshot::Snapshot;
-use lg_changes::{Change, Changes};
-use lg_rules::{Claim, Record};
+use lg_changes::{Altered, Change, Changes};
+use lg_check::text_of_name;
+use lg_rules::{Claim, Name, Record};
 use lg_timing::Moment;
 use std::alloc::{AllocError, Global};
+
+/// Appends the fields of a member that was forgotten, and the brace behind them.
+#[tactic(auto, unfolding(crate::specs::Meaning::Changes::forgotten_fields))]
+fn put_forgotten(name: &Name, text: &mut String) -> Result<(), AllocError>
+    ensures { OnOk result (string_bytes text.new
+        ≡ string_bytes text.old ++ (forgotten_fields name.now ++ codes "}")) }
+{
+    text.push_str("\"name\":\"")?;
+    text.push_str(text_of_name(name))?;
+    text.push_str(
+        "\",\"status\":\"forgotten\",\"incarnation\":null,\"address\":null,\"port\":null,\"accuser\":null}",
+    )
+}
 
 /// Appends a change.
 #[tactic(auto, unfolding(crate::specs::Meaning::Changes::change_json))]
@@ -24,7 +39,10 @@ fn put_change(change: &Change, text: &mut String) -> Result<(), AllocError>
     ensures { OnOk result (string_bytes text.new ≡ string_bytes text.old ++ change_json change.now) }
 {
     put_moment(change.version, change.moment.milliseconds(), text)?;
-    put_fields(&change.member, text)
+    match &change.altered {
+        Altered::Recorded(member) => put_fields(member, text),
+        Altered::Forgotten(name) => put_forgotten(name, text),
+    }
 }
 
 /// Appends changes, each behind a comma.
@@ -81,7 +99,7 @@ fn put_row(
     moment: Moment,
     member: &Record,
 ) -> Result<(), AllocError>
-    ensures { OnOk result (rows.new.items ≡ rows.old.items ++ change_at version moment member.now ∷ []) }
+    ensures { OnOk result (rows.new.items ≡ rows.old.items ++ recorded_at version moment member.now ∷ []) }
 {
     // Built anew from its parts, since the checker doesn't follow a whole record into a generic call.
     let Claim {
@@ -99,7 +117,7 @@ fn put_row(
     rows.push(Change {
         version,
         moment,
-        member,
+        altered: Altered::Recorded(member),
     })?;
     Ok(())
 }

@@ -7,7 +7,8 @@ ghost use Rattle.std.specs.Prelude.{◌≡◌, ◌++◌, IfOk, OnOk, codes, stri
 ghost use Rattle.std.specs.List.{flat_map};
 ghost use Rattle.lg_timing.specs.Meaning.Keys.{keys};
 ghost use Rattle.lg_answers.specs.Meaning.Bodies.{config_body, config_front, key_field, number_field, own_field};
-ghost use Rattle.lg_answers.specs.Meaning.Bodies.{open_field, seed_json, status_field, status_value};
+ghost use Rattle.lg_answers.specs.Meaning.Bodies.{group_field, group_value, open_field, seed_json};
+ghost use Rattle.lg_answers.specs.Meaning.Bodies.{status_field, status_value};
 ghost use Rattle.lg_answers.specs.Meaning.Members.{behind_comma, comma_separated};
 
 use crate::health::put_truth;
@@ -62,6 +63,29 @@ fn put_owns(numbers: &[NodeNumber], text: &mut String) -> Result<(), AllocError>
         put_number(own.key, own.value, text)?;
     }
     Ok(())
+}
+
+/// Appends the group of the member, or `null`.
+fn put_group(group: &Option<Name>, text: &mut String) -> Result<(), AllocError>
+    ensures { OnOk result (string_bytes text.new ≡ string_bytes text.old ++ group_value group.now) }
+{
+    match group {
+        Some(group) => {
+            text.push_str("\"")?;
+            text.push_str(text_of_name(group))?;
+            text.push_str("\"")
+        }
+        None => text.push_str("null"),
+    }
+}
+
+/// Appends the group of the member, behind its key.
+#[tactic(auto, unfolding(crate::specs::Meaning::Bodies::group_field))]
+fn put_group_field(group: &Option<Name>, text: &mut String) -> Result<(), AllocError>
+    ensures { OnOk result (string_bytes text.new ≡ string_bytes text.old ++ group_field group.now) }
+{
+    text.push_str(",\"group\":")?;
+    put_group(group, text)
 }
 
 /// Appends where the node answers over HTTP, or `null`.
@@ -139,6 +163,7 @@ pub(crate) fn config_body(alloc: Global, setup: &ShownConfig) -> Result<String, 
     put_front(&setup.config, &mut text)?;
     put_keys(&setup.config, &KEYS, &mut text)?;
     put_owns(&setup.numbers, &mut text)?;
+    put_group_field(&setup.config.group, &mut text)?;
     put_status_field(setup.status, &mut text)?;
     put_open_field(setup.status_open, &mut text)?;
     text.push_str(",\"seeds\":[")?;

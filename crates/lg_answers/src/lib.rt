@@ -21,7 +21,7 @@ mod route;
 mod snapshot;
 
 pub use answer::answer_to;
-pub use lg_changes::{Change, Changes, MAX_CHANGES};
+pub use lg_changes::{Altered, Change, Changes, MAX_CHANGES};
 pub use lg_counters::{Counts, Drops};
 pub use query::MAX_WAIT_MS;
 pub use reason::RouteFault;

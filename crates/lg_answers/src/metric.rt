@@ -40,6 +40,8 @@ pub(crate) enum Metric {
     SuspicionsRaised,
     /// Suspicions refuted.
     SuspicionsRefuted,
+    /// Members forgotten.
+    MembersForgotten,
     /// Entries of the history.
     HistoryEntries,
     /// Rotations of the history.
@@ -49,7 +51,7 @@ pub(crate) enum Metric {
 }
 
 /// All of them, in the order in which they are shown.
-pub(crate) const METRICS: [Metric; 18] = [
+pub(crate) const METRICS: [Metric; 19] = [
     Metric::HealthScore,
     Metric::Incarnation,
     Metric::Ousted,
@@ -65,6 +67,7 @@ pub(crate) const METRICS: [Metric; 18] = [
     Metric::ProbesHelped,
     Metric::SuspicionsRaised,
     Metric::SuspicionsRefuted,
+    Metric::MembersForgotten,
     Metric::HistoryEntries,
     Metric::HistoryRotations,
     Metric::CallsRefused,
@@ -107,6 +110,7 @@ impl Metric {
             Metric::ProbesHelped => "lg_probes_helped_total",
             Metric::SuspicionsRaised => "lg_suspicions_raised_total",
             Metric::SuspicionsRefuted => "lg_suspicions_refuted_total",
+            Metric::MembersForgotten => "lg_members_forgotten_total",
             Metric::HistoryEntries => "lg_history_entries_total",
             Metric::HistoryRotations => "lg_history_rotations_total",
             Metric::CallsRefused => "lg_calls_refused_total",
@@ -133,6 +137,7 @@ impl Metric {
             Metric::ProbesHelped => "Probes made for other members.",
             Metric::SuspicionsRaised => "Suspicions raised, of any member.",
             Metric::SuspicionsRefuted => "Suspicions of this member that it refuted.",
+            Metric::MembersForgotten => "Members forgotten, those that became known again too.",
             Metric::HistoryEntries => "Entries that the history took.",
             Metric::HistoryRotations => "Rotations of the history.",
             Metric::CallsRefused => "Calls that were refused.",
@@ -173,6 +178,7 @@ impl Metric {
             Metric::ProbesHelped => Amount::Number(snapshot.counts.probes_helped),
             Metric::SuspicionsRaised => Amount::Number(snapshot.counts.suspicions_raised),
             Metric::SuspicionsRefuted => Amount::Number(snapshot.counts.suspicions_refuted),
+            Metric::MembersForgotten => Amount::Number(snapshot.counts.members_forgotten),
             Metric::HistoryEntries => Amount::Number(snapshot.counts.history_entries),
             Metric::HistoryRotations => Amount::Number(snapshot.counts.history_rotations),
             Metric::CallsRefused => Amount::Number(snapshot.counts.calls_refused),

@@ -66,6 +66,7 @@ const PAGE_END: &str = "\
     function show(m) {\n\
     \x20 const rows = [...members.rows]\n\
     \x20 let row = rows.find((r) => r.cells[0].textContent === m.name)\n\
+    \x20 if (m.status === 'forgotten') return row?.remove()\n\
     \x20 if (!row) {\n\
     \x20   const at = rows.findIndex((r) => r.cells[0].textContent > m.name)\n\
     \x20   row = members.insertRow(at)\n\

@@ -94,16 +94,16 @@ const MISSED: &str =
 const CONFIG: &str =
     "{\"name\":\"b\",\"address\":\"127.0.0.1\",\"port\":7102,\"interval_ms\":2000,\"timeout_ms\":500,\
     \"indirect\":3,\"max_score\":8,\"alpha\":5,\"beta\":6,\"confirmations\":3,\"lambda\":4,\"nack_thousandths\":800,\
-    \"history_limit\":20000,\"wire\":1,\"gossip_ms\":200,\"gossip_to\":3,\"dice\":1,\"pull_ms\":30000,\"stall_ms\":100,\
-    \"status\":\"127.0.0.1:8946\",\"status_open\":false,\"seeds\":[\
+    \"history_limit\":20000,\"wire\":1,\"forget_ms\":0,\"gossip_ms\":200,\"gossip_to\":3,\"first\":1,\"dice\":1,\
+    \"pull_ms\":30000,\"stall_ms\":100,\"group\":null,\"status\":\"127.0.0.1:8946\",\"status_open\":false,\"seeds\":[\
     {\"name\":\"a\",\"address\":\"127.0.0.1\",\"port\":7101},\
     {\"name\":\"d\",\"address\":\"127.0.0.1\",\"port\":7104}]}";
 
 const OUSTED_CONFIG: &str =
     "{\"name\":\"b\",\"address\":\"127.0.0.1\",\"port\":7102,\"interval_ms\":2000,\"timeout_ms\":500,\
     \"indirect\":3,\"max_score\":8,\"alpha\":5,\"beta\":6,\"confirmations\":3,\"lambda\":4,\"nack_thousandths\":800,\
-    \"history_limit\":20000,\"wire\":1,\"gossip_ms\":200,\"gossip_to\":3,\"dice\":1,\"pull_ms\":30000,\"stall_ms\":100,\
-    \"status\":null,\"status_open\":true,\"seeds\":[\
+    \"history_limit\":20000,\"wire\":1,\"forget_ms\":0,\"gossip_ms\":200,\"gossip_to\":3,\"first\":1,\"dice\":1,\
+    \"pull_ms\":30000,\"stall_ms\":100,\"group\":null,\"status\":null,\"status_open\":true,\"seeds\":[\
     {\"name\":\"a\",\"address\":\"127.0.0.1\",\"port\":7101},\
     {\"name\":\"d\",\"address\":\"127.0.0.1\",\"port\":7104}]}";
 
@@ -131,9 +131,10 @@ const METRICS: &[&str] = &[
     "lg_probes_helped_total 116",
     "lg_suspicions_raised_total 117",
     "lg_suspicions_refuted_total 118",
-    "lg_history_entries_total 119",
-    "lg_history_rotations_total 120",
-    "lg_calls_refused_total 121",
+    "lg_members_forgotten_total 119",
+    "lg_history_entries_total 120",
+    "lg_history_rotations_total 121",
+    "lg_calls_refused_total 122",
     "lg_datagrams_dropped_total{fault=\"Short\"} 0",
     "lg_datagrams_dropped_total{fault=\"Magic\"} 3",
 ];

@@ -1,4 +1,5 @@
-//! What a node counts: the datagrams that a keyed link drops, and the calls of two loops at once.
+//! What a node counts: the datagrams that a keyed link drops, packets of other groups, and the calls of two loops at
+//! once.
 
 use lg_answers::Counts;
 use lg_counters::{Counters, Noted, Tally};
@@ -7,16 +8,23 @@ use lg_rules::Name;
 use lg_testing::at;
 use std::thread::join;
 
-/// They count as received, and each by its fault. The opening is the first event, and they are none.
+/// Datagrams that aren't sealed count as received, and each by its fault. A packet of another group is counted as such
+/// alone, since its datagram was counted before. The opening is the first event, and none of these is one.
 #[test]
 fn counts_unsealed_datagrams(rt: HostRuntime) {
     let counters = Counters::new(Name::default(), at(7));
     counters.note_unsigned();
     counters.note_forged();
     counters.note_forged();
+    counters.note_other_group();
     assert_eq!(rt; (counters.counts().received, counters.last_event()), (3, 7));
     let drops = counters.drops();
-    for (fault, want) in [("Trailing", 0), ("Unsigned", 1), ("Forged", 2)] {
+    for (fault, want) in [
+        ("Trailing", 0),
+        ("Unsigned", 1),
+        ("Forged", 2),
+        ("OtherGroup", 1),
+    ] {
         let met = drops
             .iter()
             .any(|row| row.fault == fault && row.count == want);
@@ -37,6 +45,7 @@ const NOTED: Noted = Noted {
         probe_helped: true,
         suspicions_raised: 4,
         refuted: true,
+        members_forgotten: 5,
     },
 };
 
@@ -66,6 +75,7 @@ fn counts_of_two_threads_add_up(rt: HostRuntime) {
         probes_helped: calls,
         suspicions_raised: 4 * calls,
         suspicions_refuted: calls,
+        members_forgotten: 5 * calls,
         history_entries: calls + 1,
         history_rotations: calls,
         calls_refused: calls,

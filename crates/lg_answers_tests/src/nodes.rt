@@ -61,9 +61,10 @@ fn counts() -> Counts {
         probes_helped: 116,
         suspicions_raised: 117,
         suspicions_refuted: 118,
-        history_entries: 119,
-        history_rotations: 120,
-        calls_refused: 121,
+        members_forgotten: 119,
+        history_entries: 120,
+        history_rotations: 121,
+        calls_refused: 122,
     }
 }
 

@@ -1,7 +1,6 @@
 //! Which changes a ring keeps, which of them are behind a version, and how one ring catches up with another.
-use lg_changes::{Behind, Change, Changes, MAX_CHANGES};
-use lg_rules::Record;
-use lg_testing::{alive, at, failed, suspect};
+use lg_changes::{Altered, Behind, Change, Changes, MAX_CHANGES};
+use lg_testing::{alive, at, failed, letter, suspect};
 use std::alloc::{AllocError, Global};
 
 /// A ring after so many changes. The first is after one event, and each is that a is alive at one incarnation more.
@@ -18,7 +17,7 @@ fn ring_after(alloc: Global, changes: u32) -> Result<Changes, AllocError> {
 fn is_of(change: &Change, number: u32) -> bool {
     change.version == u64::from(number)
         && change.moment == at(u64::from(number))
-        && change.member == alive(b'a', number)
+        && change.altered == Altered::Recorded(alive(b'a', number))
 }
 
 /// Whether changes are those from one number to the one before another.
@@ -85,35 +84,41 @@ fn knows_the_newest(rt: HostRuntime) {
     }
 }
 
-/// Three events: by the first c is alive, the second changes no record, and by the third a is suspected and c has
-/// failed.
-fn after_three_events(alloc: Global) -> Result<Changes, AllocError> {
+/// Four events: by the first c is alive, the second changes nothing, and by the third a is suspected and c has failed.
+/// By the fourth c is forgotten, and then e, and d is alive.
+fn after_four_events(alloc: Global) -> Result<Changes, AllocError> {
     let mut ring = Changes::new(alloc)?;
     ring.keep_changed(30, at(4000), &[alive(b'c', 2)]);
+    ring.keep_forgotten(35, at(4500), &[]);
     ring.keep_changed(35, at(4500), &[]);
     ring.keep_changed(41, at(5120), &[suspect(b'a', 0, b'c'), failed(b'c', 2)]);
+    ring.keep_forgotten(50, at(9000), &[letter(b'c'), letter(b'e')]);
+    ring.keep_changed(50, at(9000), &[alive(b'd', 1)]);
     Ok(ring)
 }
 
-/// The change of a record at a version and a moment.
-fn change(version: u64, milliseconds: u64, member: Record) -> Change {
+/// What was altered at a version and a moment.
+fn change(version: u64, milliseconds: u64, altered: Altered) -> Change {
     Change {
         version,
         moment: at(milliseconds),
-        member,
+        altered,
     }
 }
 
-/// The changes of one event have its version and its moment, and are in the order of its records.
+/// The changes of one event have its version and its moment, and are in the order of its names and its records.
 #[test]
-fn keeps_each_record(rt: HostRuntime) {
+fn keeps_each_change(rt: HostRuntime) {
     let wanted = [
-        change(30, 4000, alive(b'c', 2)),
-        change(41, 5120, suspect(b'a', 0, b'c')),
-        change(41, 5120, failed(b'c', 2)),
+        change(30, 4000, Altered::Recorded(alive(b'c', 2))),
+        change(41, 5120, Altered::Recorded(suspect(b'a', 0, b'c'))),
+        change(41, 5120, Altered::Recorded(failed(b'c', 2))),
+        change(50, 9000, Altered::Forgotten(letter(b'c'))),
+        change(50, 9000, Altered::Forgotten(letter(b'e'))),
+        change(50, 9000, Altered::Recorded(alive(b'd', 1))),
     ];
-    for (version, passed) in [(0, 0), (29, 0), (30, 1), (40, 1), (41, 3)] {
-        let found = after_three_events(rt.alloc()).and_then(|ring| ring.after(rt.alloc(), version));
+    for (version, passed) in [(0, 0), (29, 0), (30, 1), (40, 1), (41, 3), (49, 3), (50, 6)] {
+        let found = after_four_events(rt.alloc()).and_then(|ring| ring.after(rt.alloc(), version));
         let is_met = match &found {
             Ok(Some(found)) => found.iter().eq(wanted.iter().skip(passed)),
             _ => false,

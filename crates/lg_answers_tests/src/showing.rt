@@ -1,8 +1,8 @@
 //! What a node shows over HTTP, from looks at an agent of b in memory, and what it counts. Another pass hears packets.
 
 use crate::steps::Step::{
-    self, Alive, Asked, Counted, Garbage, Gets, Goes, Refutes, Shows, Stood, Suspect, Tells, Tick,
-    Unsent, Waits as ToWait,
+    self, Alive, Asked, Counted, Fails, Garbage, Gets, Goes, Refutes, Shows, Stood, Suspect, Tells,
+    Tick, Unsent, Waits as ToWait,
 };
 use crate::steps::play;
 use lg_http::HttpStatus;
@@ -145,6 +145,35 @@ const CASES: &[(&str, &[Step])] = &[
                 "{\"version\":4,\"missed\":false,\"changes\":[{\"version\":4,\"moment_ms\":410,\"name\":\"c\",\
                  \"status\":\"alive\",\"incarnation\":1,\"address\":\"127.0.0.1\",\"port\":7000,\"accuser\":null}]}",
             ),
+        ],
+    ),
+    (
+        "a member that has failed is forgotten a second later, by the second tick: the first one starts a round",
+        &[
+            Alive(20, b'c'),
+            Fails(30, b'c'),
+            Tick(1030),
+            Shows(1031, 3),
+            Tells("/metrics", "\nlg_members{status=\"failed\"} 1\n"),
+            Tells("/metrics", "\nlg_members_forgotten_total 0\n"),
+            Tick(1032),
+            Shows(1035, 5),
+            Gets(
+                "/v1/changes",
+                Some("after=3&wait_ms=0"),
+                HttpStatus::Fine,
+                "{\"version\":5,\"missed\":false,\"changes\":[{\"version\":5,\"moment_ms\":1032,\"name\":\"c\",\
+                 \"status\":\"forgotten\",\"incarnation\":null,\"address\":null,\"port\":null,\
+                 \"accuser\":null}]}",
+            ),
+            Gets(
+                "/v1/members/c",
+                None,
+                HttpStatus::NotFound,
+                "{\"error\":\"no member of this name is known\"}",
+            ),
+            Tells("/metrics", "\nlg_members{status=\"failed\"} 0\n"),
+            Tells("/metrics", "\nlg_members_forgotten_total 1\n"),
         ],
     ),
     (

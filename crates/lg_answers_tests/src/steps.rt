@@ -2,7 +2,7 @@
 ghost use Rattle.std.specs.Prelude.{◌≡◌};
 
 use Step::{
-    Alive, Asked, Counted, Garbage, Gets, Goes, Refutes, Shows, Stood, Suspect, Tells, Tick,
+    Alive, Asked, Counted, Fails, Garbage, Gets, Goes, Refutes, Shows, Stood, Suspect, Tells, Tick,
     Unsent, Waits as ToWait,
 };
 use arrayvec::ArrayVec;
@@ -14,7 +14,7 @@ use lg_http::{HttpAnswer, HttpStatus, Kind, Site, Wait as Waits};
 use lg_packet::{Body, Packet, encode};
 use lg_rules::Claim;
 use lg_status_server::{NodeSite, SiteBasis};
-use lg_testing::{alive, at, letter, local, packet, ping, suspect};
+use lg_testing::{alive, at, failed, letter, local, packet, ping, suspect};
 use lg_timing::{Config, Moment};
 use lg_view::UnnamedBook;
 use std::alloc::Global;
@@ -31,6 +31,8 @@ pub enum Step<'a> {
     Alive(u64, u8),
     /// The same that it is suspected by a.
     Suspect(u64, u8),
+    /// The same that it has failed.
+    Fails(u64, u8),
     /// The same that it is alive at incarnation 1, so it refuted a suspicion.
     Refutes(u64, u8),
     /// The same as `Alive`, and the packet by which b answers isn't sent.
@@ -169,6 +171,7 @@ impl<'a, R: Wait> Doing<'a, R> {
             Suspect(now, member) => {
                 Some(self.hear_claim(pass, now, suspect(member, 0, b'a'), 0))
             }
+            Fails(now, member) => Some(self.hear_claim(pass, now, failed(member, 0), 0)),
             Refutes(now, member) => Some(self.hear_claim(pass, now, alive(member, 1), 0)),
             Asked(now) => Some(self.hear_packet(pass, now, &packet_of(&[], asks), 0)),
             Garbage(now) => Some(self.hear(pass, now, b"garbage", 0)),
@@ -317,7 +320,7 @@ fn play_with<A: AgentName, R: Wait>(
     Some(first_unmet(&doing, &mut hearer, &mut site, steps))
 }
 
-/// Opens an agent of two places, and does the steps with it.
+/// Opens an agent of two places, which forgets a member a second after it is gone, and does the steps with it.
 fn play_in<A: AgentName, R: Wait>(
     rt: &R,
     alloc: Global,
@@ -329,7 +332,9 @@ fn play_in<A: AgentName, R: Wait>(
     requires book { book.seen.book ≡ A.book }
     requires places { (places ≡ A.places) × (places ≡ 2) }
 {
-    let config = Config::new(letter(b'b'), local(7000));
+    let mut config = Config::new(letter(b'b'), local(7000));
+    config.forget_ms = 1000;
+    config.check().ok()?;
     let mut agent = Agent::<A>::open(rt, alloc, book, at(0), config.copy(), places).ok()?;
     let outcome = match agent.passes(alloc) {
         Ok(passes) => play_with(rt, alloc, passes, &config, steps, twice),

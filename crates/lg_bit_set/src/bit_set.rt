@@ -1,7 +1,7 @@
 //! A set of numbers below 256.
 //!
 //! Defined in: `specs/Meaning/Flags.antt`.
-//! Tested in: `lg_detector_tests/src/bit_set.rt`.
+//! Tested in: `lg_parts_tests/src/bit_set.rt`.
 use crate::word::{closed_word, lowest_bits, nth_bit, opened_word, risen_word, topped_word};
 use std::alloc::AllocError;
 use std::marker::Model;

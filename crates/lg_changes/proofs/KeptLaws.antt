@@ -7,7 +7,7 @@ use Rattle.std.proofs.lemmas.Bool.Decides.{nat_tests}
 use Rattle.std.proofs.lemmas.List.Elements.{filter-append}
 use Rattle.std.proofs.lemmas.Option.{same_Some}
 use Rattle.lg_changes.specs.declared.change.Change.{Change}
-use Rattle.lg_changes.specs.Meaning.Changes.{changes_after, forgotten, is_after, last_version, most_changes}
+use Rattle.lg_changes.specs.Meaning.Changes.{changes_after, dropped, is_after, last_version, most_changes}
 use Rattle.lg_changes.specs.declared.ring.Changes.{Changes}
 use Rattle.lg_changes.specs.Meaning.Kept.{greatest_version, KeepsNewest}
 use Rattle.std.specs.VecDeque.{deque_capacity, deque_len}
@@ -39,10 +39,10 @@ count_of_others (suc k) r few full =
     let is : r ≡ 1024 = full (omega arith) in
     omega arith
 
--- the changes that a ring doesn't keep are those that are forgotten
-pub forgotten_are : (others rows : List Change) → length rows ≤ most_changes → (0 < length others → length rows ≡ most_changes)
-    → forgotten (others ++ rows) ≡ others
-forgotten_are others rows few full =
+-- the changes that a ring doesn't keep are those that are dropped
+pub dropped_are : (others rows : List Change) → length rows ≤ most_changes → (0 < length others → length rows ≡ most_changes)
+    → dropped (others ++ rows) ≡ others
+dropped_are others rows few full =
     ap (λ (n : ℕ). take (n - 1024) (others ++ rows)) (length-append others rows)
     ∙ ap (λ (n : ℕ). take n (others ++ rows)) (count_of_others (length others) (length rows) few full)
     ∙ take-append_seam others rows
@@ -53,14 +53,14 @@ after_by true v others rows is = refl
 after_by false v others rows is =
     ap Some (filter-append (is_after v) others rows ∙ ap (λ (xs : List Change). xs ++ filter (is_after v) rows) (none_found (is_after v) others is))
 
--- so the changes behind a version are among those that it keeps, unless one is forgotten
+-- so the changes behind a version are among those that it keeps, unless one is dropped
 pub after_kept : (v lost : ℕ) (others rows all : List Change) → all ≡ others ++ rows → lost ≡ greatest_version others
     → length rows ≤ most_changes → (0 < length others → length rows ≡ most_changes)
     → changes_after v all ≡ (if nat_lt v lost then None else Some (filter (is_after v) rows))
 unfolding changes_after
 after_kept v lost others rows all are is few full =
     ap (λ (xs : List Change). changes_after v xs) are
-    ∙ ap (λ (xs : List Change). cond (list_any (is_after v) xs) None (Some (filter (is_after v) (others ++ rows)))) (forgotten_are others rows few full)
+    ∙ ap (λ (xs : List Change). cond (list_any (is_after v) xs) None (Some (filter (is_after v) (others ++ rows)))) (dropped_are others rows few full)
     ∙ after_by (list_any (is_after v) others) v others rows refl
     ∙ ap (λ (b : Bool). cond b None (Some (filter (is_after v) rows))) (behind_greatest v others ∙ ap (nat_lt v) (sym is))
 
@@ -157,4 +157,4 @@ cond_some false xs ys is = sym (same_Some xs ys is)
 -- what is found behind a version are all changes behind it
 pub found_behind : (v : ℕ) (all found : List Change) → changes_after v all ≡ Some found → found ≡ filter (is_after v) all
 unfolding changes_after
-found_behind v all found has = cond_some (list_any (is_after v) (forgotten all)) (filter (is_after v) all) found has
+found_behind v all found has = cond_some (list_any (is_after v) (dropped all)) (filter (is_after v) all) found has

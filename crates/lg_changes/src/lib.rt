@@ -9,5 +9,5 @@ mod change;
 mod ring;
 
 pub use behind::Behind;
-pub use change::Change;
+pub use change::{Altered, Change};
 pub use ring::{Changes, MAX_CHANGES};

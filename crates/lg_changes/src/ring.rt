@@ -1,4 +1,4 @@
-//! Keeps the newest changes of records, and finds those behind a version.
+//! Keeps the newest changes, and finds those behind a version.
 //!
 //! Defined in: `specs/Meaning/Changes.antt`, `specs/Meaning/Kept.antt`.
 //! Tested in: `lg_answers_tests/src/ring.rt`.
@@ -6,12 +6,12 @@ ghost use Rattle.std.specs.Prelude.{◌≡◌, ◌+◌, ◌<◌, ℕ, List, [], 
 ghost use Rattle.std.specs.Option.{option_map};
 ghost use Rattle.std.specs.VecDeque.{deque_capacity, deque_len};
 ghost use Rattle.lg_changes.specs.declared.change.Change.{Change as Changed};
-ghost use Rattle.lg_changes.specs.Meaning.Changes.{change_at, changes_after, is_after, last_version};
+ghost use Rattle.lg_changes.specs.Meaning.Changes.{recorded_at, forgotten_at, changes_after, is_after, last_version};
 ghost use Rattle.lg_changes.specs.Meaning.Kept.{HasBehind, KeepsNewest};
 
 use crate::behind::Behind;
-use crate::change::Change;
-use lg_rules::{Claim, Record};
+use crate::change::{Altered, Change};
+use lg_rules::{Claim, Name, Record};
 use lg_timing::Moment;
 use std::alloc::{AllocError, Global};
 use std::collections::VecDeque;
@@ -19,7 +19,7 @@ use std::collections::VecDeque;
 /// How many changes are kept: 1,024 (this project's choice).
 pub const MAX_CHANGES: usize = 1024;
 
-/// The newest changes of the records, at most [`MAX_CHANGES`].
+/// The newest changes of what is known of the members, at most [`MAX_CHANGES`].
 #[derive(Drop)]
 pub struct Changes {
     /// The changes that are kept, the oldest first.
@@ -29,30 +29,33 @@ pub struct Changes {
 }
 
 /// Puts a change behind the others, if there is room for it without an allocation.
-fn push(rows: &mut VecDeque<Change>, version: u64, moment: Moment, member: &Record)
-    ensures items { deque_len rows.old < deque_capacity rows.old
-        → rows.new.items ≡ rows.old.items ++ change_at version moment member.now ∷ [] }
+fn push(rows: &mut VecDeque<Change>, change: &Change)
+    ensures items { deque_len rows.old < deque_capacity rows.old → rows.new.items ≡ rows.old.items ++ change.now ∷ [] }
     ensures len { deque_len rows.old < deque_capacity rows.old → deque_len rows.new ≡ deque_len rows.old + 1 }
     ensures room { deque_len rows.old < deque_capacity rows.old
         → deque_capacity rows.new ≡ deque_capacity rows.old }
 {
     // Built anew from its parts, since the checker doesn't follow a whole record into a generic call.
-    let Claim {
-        name,
-        addr,
-        status,
-        incarnation,
-    } = *member;
-    let member = Claim {
-        name,
-        addr,
-        status,
-        incarnation,
+    let altered = match change.altered {
+        Altered::Recorded(
+            Claim {
+                name,
+                addr,
+                status,
+                incarnation,
+            },
+        ) => Altered::Recorded(Claim {
+            name,
+            addr,
+            status,
+            incarnation,
+        }),
+        Altered::Forgotten(name) => Altered::Forgotten(name),
     };
     let _ = rows.push_back(Change {
-        version,
-        moment,
-        member,
+        version: change.version,
+        moment: change.moment,
+        altered,
     });
 }
 
@@ -66,29 +69,47 @@ impl Changes {
         Ok(Changes { rows, lost: 0 })
     }
 
-    /// Keeps a change as the newest one. If there is no room for it, the oldest is forgotten. Allocates nothing.
-    fn keep(&mut self, version: u64, moment: Moment, member: &Record)
-        ensures { (all : List Changed) → KeepsNewest self.old all
-            → KeepsNewest self.new (all ++ change_at version moment member.now ∷ []) }
+    /// Keeps a change as the newest one. If there is no room for it, the oldest is dropped. Allocates nothing.
+    fn keep(&mut self, change: &Change)
+        ensures { (all : List Changed) → KeepsNewest self.old all → KeepsNewest self.new (all ++ change.now ∷ []) }
     {
         if self.rows.len() < MAX_CHANGES {
-            push(&mut self.rows, version, moment, member);
+            push(&mut self.rows, change);
             return;
         }
         if let Some(oldest) = self.rows.pop_front() {
             self.lost = self.lost.max(oldest.version);
-            push(&mut self.rows, version, moment, member);
+            push(&mut self.rows, change);
         }
     }
 
     /// Keeps a change for each of these records, in their order: they changed at a moment, and then there were so many
-    /// events. If there are more than [`MAX_CHANGES`] changes, the oldest are forgotten. Allocates nothing.
+    /// events. If there are more than [`MAX_CHANGES`] changes, the oldest are dropped. Allocates nothing.
     pub fn keep_changed(&mut self, version: u64, moment: Moment, members: &[Record])
         ensures { (all : List Changed) → KeepsNewest self.old all
-            → KeepsNewest self.new (all ++ map (change_at version moment) members.now) }
+            → KeepsNewest self.new (all ++ map (recorded_at version moment) members.now) }
     {
         for member in members {
-            self.keep(version, moment, member);
+            self.keep(&Change {
+                version,
+                moment,
+                altered: Altered::Recorded(*member),
+            });
+        }
+    }
+
+    /// Keeps a change for each of these names, in their order: their members were forgotten at a moment, and then there
+    /// were so many events. If there are more than [`MAX_CHANGES`] changes, the oldest are dropped. Allocates nothing.
+    pub fn keep_forgotten(&mut self, version: u64, moment: Moment, names: &[Name])
+        ensures { (all : List Changed) → KeepsNewest self.old all
+            → KeepsNewest self.new (all ++ map (forgotten_at version moment) names.now) }
+    {
+        for name in names {
+            self.keep(&Change {
+                version,
+                moment,
+                altered: Altered::Forgotten(*name),
+            });
         }
     }
 
@@ -115,7 +136,7 @@ impl Changes {
     }
 
     /// The changes behind a version, the oldest first. None if the ring no longer reaches back to that version, since
-    /// it forgot a change behind it.
+    /// it dropped a change behind it.
     ///
     /// Memory is allocated for a copy of the changes. The only error is that it was refused.
     pub fn after(&self, alloc: Global, version: u64) -> Result<Option<Vec<Change>>, AllocError>
@@ -141,7 +162,7 @@ impl Changes {
         Ok(ring)
     }
 
-    /// What the ring has behind a version: all changes behind it, or a copy of the ring if it has forgotten one of
+    /// What the ring has behind a version: all changes behind it, or a copy of the ring if it has dropped one of
     /// them. Memory is allocated for the copy. The only error is that it was refused.
     pub fn behind(&self, alloc: Global, version: u64) -> Result<Behind, AllocError>
         ensures { (all : List Changed) → KeepsNewest self.now all
@@ -157,7 +178,7 @@ impl Changes {
     }
 
     /// Keeps the changes that another ring has behind a version, if this ring keeps those up to that version. If the
-    /// other has forgotten some of them, this ring becomes a copy of it. Allocates nothing.
+    /// other has dropped some of them, this ring becomes a copy of it. Allocates nothing.
     pub fn catch_up(&mut self, found: Behind)
         ensures { (all more : List Changed) → (version : ℕ) → KeepsNewest self.old all
             → filter (is_after version) (all ++ more) ≡ more → HasBehind found version (all ++ more)
@@ -174,7 +195,7 @@ impl Changes {
         ensures { (all : List Changed) → KeepsNewest self.old all → KeepsNewest self.new (all ++ changes.now) }
     {
         for change in changes {
-            self.keep(change.version, change.moment, &change.member);
+            self.keep(change);
         }
     }
 }

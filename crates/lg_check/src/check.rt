@@ -8,10 +8,11 @@ ghost use Rattle.lg_timing.specs.Meaning.Config.{IsChecked};
 ghost use Rattle.lg_check.specs.Meaning.Checks.{check_text, group_line, group_sizes, member_line, own_line};
 
 use crate::lines::{
-    put_address, put_group, put_key_file, put_member, put_own, put_server, put_start,
+    put_address, put_group, put_group_name, put_key_file, put_member, put_own, put_server,
+    put_start,
 };
-use lg_config::{NODE_KEYS, NodeConfig, NodeKey};
-use lg_timing::{Config, KEYS, Key};
+use lg_config::{FILE_KEYS, NODE_KEYS, NodeConfig, NodeKey};
+use lg_timing::{Config, Key};
 use std::alloc::{AllocError, Global};
 
 /// Appends the lines of some of the member's numbers to a text.
@@ -48,13 +49,13 @@ fn put_groups(config: &Config, text: &mut String) -> Result<(), AllocError>
     put_group(config, 256, text)
 }
 
-/// What a check writes of a configuration: a line `KEY = VALUE` for each key, in the order of the documents, with
-/// ` (default)` behind a value that is the default. Then for groups of 4, 16, 64 and 256 members a line of the times
-/// that follow, in milliseconds: how long a round takes, and the least and the greatest suspicion timeout (Lifeguard,
-/// local health aware suspicion). The forms are this project's choice.
+/// What a check writes of a configuration: a line `KEY = VALUE` for each key of a file, in the order of the documents,
+/// with ` (default)` behind a value that is the default. Then for groups of 4, 16, 64 and 256 members a line of the
+/// times that follow, in milliseconds: how long a round takes, and the least and the greatest suspicion timeout
+/// (Lifeguard, local health aware suspicion). The forms are this project's choice.
 ///
 /// The configuration has to be checked. The only error is that memory was refused. Memory is allocated for the text,
-/// which has 27 lines.
+/// which has 29 lines.
 #[tactic(auto, unfolding(crate::specs::Meaning::Checks::check_text))]
 pub fn check_text(alloc: Global, node: &NodeConfig) -> Result<String, AllocError>
     requires { IsChecked node.now.config }
@@ -63,10 +64,11 @@ pub fn check_text(alloc: Global, node: &NodeConfig) -> Result<String, AllocError
     let mut text = String::new(alloc);
     put_address(alloc, &node.config, &mut text)?;
     put_start(alloc, node, &mut text)?;
-    put_members(&node.config, &KEYS, &mut text)?;
+    put_members(&node.config, &FILE_KEYS, &mut text)?;
     put_owns(node, &NODE_KEYS, &mut text)?;
     put_server(alloc, node, &mut text)?;
     put_key_file(&node.key_file, &mut text)?;
+    put_group_name(&node.config.group, &mut text)?;
     put_groups(&node.config, &mut text)?;
     Ok(text)
 }

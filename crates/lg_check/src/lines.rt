@@ -6,13 +6,14 @@ ghost use Rattle.std.specs.Prelude.{◌≡◌, ◌≤◌, ◌++◌, OnOk, string
 ghost use Rattle.lg_timing.specs.Meaning.Config.{IsChecked};
 ghost use Rattle.lg_check.specs.Meaning.Checks.{address_lines, default_mark, group_line, key_line, listening_line};
 ghost use Rattle.lg_check.specs.Meaning.Checks.{key_file_line, member_line, number_line, own_line, server_lines};
-ghost use Rattle.lg_check.specs.Meaning.Checks.{start_lines, status_open_line, times_line};
+ghost use Rattle.lg_check.specs.Meaning.Checks.{group_name_line, start_lines, status_open_line, times_line};
 
 use crate::spelling::{
-    ip_text, path_spelled, seeds_spelled, status_spelled, text_of_name, truth_spelled,
+    group_spelled, ip_text, path_spelled, seeds_spelled, status_spelled, text_of_name,
+    truth_spelled,
 };
 use lg_config::{DEFAULT_ADDRESS, DEFAULT_DICE, DEFAULT_PORT, FilePath, NodeConfig, NodeKey};
-use lg_rules::Addr;
+use lg_rules::{Addr, Name};
 use lg_timing::{Config, Key, MAX_LIVE, SuspicionTimeout, suspicion_ms};
 use std::alloc::{AllocError, Global};
 
@@ -115,6 +116,13 @@ pub(crate) fn put_key_file(path: &Option<FilePath>, text: &mut String) -> Result
     ensures { OnOk result (string_bytes text.new ≡ string_bytes text.old ++ key_file_line path.now) }
 {
     put_key("key_file", path_spelled(path), path.is_none(), text)
+}
+
+/// Appends the line of the group that the member belongs to to a text.
+pub(crate) fn put_group_name(group: &Option<Name>, text: &mut String) -> Result<(), AllocError>
+    ensures { OnOk result (string_bytes text.new ≡ string_bytes text.old ++ group_name_line group.now) }
+{
+    put_key("group", group_spelled(group), group.is_none(), text)
 }
 
 /// Appends the line of a group of some members to a text, given its times in milliseconds.

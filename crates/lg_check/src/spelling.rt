@@ -1,4 +1,4 @@
-//! Spells names, addresses, seeds, paths and truth values.
+//! Spells names, addresses, seeds, paths, groups and truth values.
 //!
 //! Defined in: `specs/Meaning/Spelling.antt`, `lg_text/specs/Meaning/Addresses.antt`.
 //! Tested in: `cases/check.case`.
@@ -6,7 +6,7 @@ ghost use Rattle.std.specs.Prelude.{◌≡◌, ◌++◌, IfOk, OnOk, string_byte
 ghost use Rattle.std.specs.List.{flat_map};
 ghost use Rattle.lg_text.specs.Meaning.Addresses.{addr_text, ip_text};
 ghost use Rattle.lg_check.specs.Meaning.Spelling.{next_seed, seed_spelled, seeds_spelled, status_spelled};
-ghost use Rattle.lg_check.specs.Meaning.Spelling.{path_spelled, truth_spelled};
+ghost use Rattle.lg_check.specs.Meaning.Spelling.{group_spelled, path_spelled, truth_spelled};
 
 use lg_config::FilePath;
 use lg_rules::{Addr, Ip, Name};
@@ -96,6 +96,16 @@ pub(crate) fn path_spelled(path: &Option<FilePath>) -> &str
     match path {
         None => "none",
         Some(path) => path.as_str(),
+    }
+}
+
+/// The name of a group, or a word for no group.
+pub(crate) fn group_spelled(group: &Option<Name>) -> &str
+    ensures { result.now ≡ group_spelled group.now }
+{
+    match group {
+        None => "none",
+        Some(name) => text_of_name(name),
     }
 }
 

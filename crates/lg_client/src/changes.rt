@@ -4,22 +4,31 @@
 //! Tested in: `lg_client_tests/src/watching.rt`, `lg_client_tests/src/edits.rt`.
 ghost use Rattle.std.specs.Prelude.{◌≡◌};
 ghost use Rattle.serde_json.specs.View.{items_view, view};
-ghost use Rattle.lg_client.specs.Meaning.Changes.{change_said, news_said};
+ghost use Rattle.lg_client.specs.Meaning.Changes.{altered_by, altered_said, change_said, news_said};
 ghost use Rattle.lg_client.specs.Meaning.Fields.{each_read};
 ghost use Rattle.lg_client.specs.Support.Reading.{IsReadAs, PutsRow, news_shown};
 
 use crate::fault::AskFault;
-use crate::fields::{natural_at, rows_at, truth_at};
+use crate::fields::{name_at, natural_at, rows_at, text_at, truth_at};
 use crate::members::member_in;
-use lg_rules::{Claim, Record};
+use lg_rules::{Claim, Name, Record};
 use serde_json::Value;
 use std::alloc::Global;
 
-/// A change: a record, and the moment at which it changed, in milliseconds from the node's start.
+/// What a change says of a member.
+#[derive(Clone, Copy, Debug)]
+pub(crate) enum Altered {
+    /// This is its record.
+    Recorded(Record),
+    /// The node forgot the member of this name.
+    Forgotten(Name),
+}
+
+/// A change: what it says of a member, and its moment, in milliseconds from the node's start.
 #[derive(Clone, Copy, Debug)]
 pub(crate) struct Change {
     pub(crate) moment_ms: u64,
-    pub(crate) member: Record,
+    pub(crate) altered: Altered,
 }
 
 /// What a node says of changes.
@@ -33,14 +42,37 @@ pub(crate) struct News {
     pub(crate) changes: Vec<Change>,
 }
 
+/// What a change whose status has this word says of a member. Of one that was forgotten only the name is read.
+fn altered_by(word: &[u8], change: &Value) -> Option<Altered>
+    ensures { result ≡ altered_by word.now (view change.now) }
+{
+    if word == b"forgotten".as_slice() {
+        let name = name_at(change, "name")?;
+        Some(Altered::Forgotten(name))
+    } else {
+        let member = member_in(change)?;
+        Some(Altered::Recorded(member))
+    }
+}
+
+/// What a change says of a member.
+fn altered_in(change: &Value) -> Option<Altered>
+    ensures { result ≡ altered_said (view change.now) }
+{
+    match text_at(change, "status") {
+        Some(word) => altered_by(word.as_bytes(), change),
+        None => None,
+    }
+}
+
 /// A change.
 #[tactic(auto, unfolding(crate::specs::Meaning::Changes::change_said))]
 fn change_in(change: &Value) -> Option<Change>
     ensures { result ≡ change_said (view change.now) }
 {
     let moment_ms = natural_at(change, "moment_ms")?;
-    let member = member_in(change)?;
-    Some(Change { moment_ms, member })
+    let altered = altered_in(change)?;
+    Some(Change { moment_ms, altered })
 }
 
 /// Appends a change to others.
@@ -48,21 +80,26 @@ fn put_row(rows: &mut Vec<Change>, change: &Change) -> Result<(), AskFault>
     ensures { PutsRow rows.old.items rows.new.items change.now result }
 {
     // Built anew from its parts, since the checker doesn't follow a whole record into a generic call.
-    let Claim {
-        name,
-        addr,
-        status,
-        incarnation,
-    } = change.member;
-    let member = Claim {
-        name,
-        addr,
-        status,
-        incarnation,
+    let altered = match change.altered {
+        Altered::Recorded(member) => {
+            let Claim {
+                name,
+                addr,
+                status,
+                incarnation,
+            } = member;
+            Altered::Recorded(Claim {
+                name,
+                addr,
+                status,
+                incarnation,
+            })
+        }
+        Altered::Forgotten(name) => Altered::Forgotten(name),
     };
     let row = Change {
         moment_ms: change.moment_ms,
-        member,
+        altered,
     };
     match rows.push(row) {
         Ok(()) => Ok(()),

@@ -7,12 +7,13 @@
 //! Tested in: `lg_client_tests/src/asking.rt`, `lg_client_tests/src/watching.rt`.
 ghost use Rattle.std.specs.Prelude.{◌≡◌, ◌++◌, OnOk, decimal};
 ghost use Rattle.std.specs.List.{flat_map};
-ghost use Rattle.lg_client.specs.Meaning.Lines.{body_line, change_line, health_lines, number_pair_line, pair_line};
-ghost use Rattle.lg_client.specs.Meaning.Lines.{count_lines, news_text, standing_lines, time_lines, truth_shown};
+ghost use Rattle.lg_client.specs.Meaning.Lines.{altered_line, body_line, change_line, count_lines, health_lines};
+ghost use Rattle.lg_client.specs.Meaning.Lines.{news_text, number_pair_line, pair_line, standing_lines, time_lines};
+ghost use Rattle.lg_client.specs.Meaning.Lines.{truth_shown};
 ghost use Rattle.lg_client.specs.Support.Reading.{news_shown};
 ghost use Rattle.lg_lines.specs.Meaning.Records.{table_text};
 
-use crate::changes::{Change, News};
+use crate::changes::{Altered, Change, News};
 use crate::health::Health;
 use itoa::Buffer;
 use lg_lines::put_table;
@@ -107,13 +108,23 @@ pub(crate) fn put_health(health: &Health, text: &mut Vec<u8>) -> Result<(), Allo
     put_times(health, text)
 }
 
+/// Appends what a change says of a member, as a line: its record, or `forgotten NAME`.
+fn put_altered(altered: &Altered, text: &mut Vec<u8>) -> Result<(), AllocError>
+    ensures { OnOk result (text.new.items ≡ text.old.items ++ altered_line altered.now) }
+{
+    match altered {
+        Altered::Recorded(member) => put_records(&[*member], text),
+        Altered::Forgotten(name) => put_pair(b"forgotten", name.as_bytes(), text),
+    }
+}
+
 /// Appends a change, as a line.
 fn put_change(change: &Change, text: &mut Vec<u8>) -> Result<(), AllocError>
     ensures { OnOk result (text.new.items ≡ text.old.items ++ change_line change.now) }
 {
     put_number(change.moment_ms, text)?;
     put(b" ", text)?;
-    put_records(&[change.member], text)
+    put_altered(&change.altered, text)
 }
 
 /// Appends changes, a line each.

@@ -110,8 +110,9 @@ fn watch<M: Net + rt::Clock, W: Write, F: FaultStream>(
     tell(AskFault::Unanswered, faults)
 }
 
-/// Asks the node at an address for changes, again and again, and writes each as it comes: its moment in milliseconds
-/// and the line of its record, or with `json` each answer as it came. Gives the exit status once that fails.
+/// Asks the node at an address for changes, again and again, and writes each as it comes: its moment in milliseconds,
+/// and the line of its record or `forgotten` and a name; or with `json` each answer as it came. Gives the exit status
+/// once that fails.
 ///
 /// The text of the address is A.B.C.D:PORT. A request is `GET /v1/changes?after=V&wait_ms=30000`, on a connection of
 /// its own. V is 0 at first, then the version of the answer before. If that is less than what was asked for, the node

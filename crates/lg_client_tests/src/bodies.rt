@@ -91,3 +91,10 @@ pub(crate) const CHANGE: &str =
     \"status\":\"alive\",\"incarnation\":1,\"address\":\"127.0.0.1\",\"port\":7101,\"accuser\":null}]}";
 
 pub(crate) const CHANGE_TEXT: &str = "5120 record a alive 1 127.0.0.1:7101\n";
+
+/// A member that was forgotten.
+pub(crate) const FORGOTTEN: &str =
+    "{\"version\":90,\"missed\":false,\"changes\":[{\"version\":90,\"moment_ms\":90000,\"name\":\"c\",\
+    \"status\":\"forgotten\",\"incarnation\":null,\"address\":null,\"port\":null,\"accuser\":null}]}";
+
+pub(crate) const FORGOTTEN_TEXT: &str = "90000 forgotten c\n";

@@ -1,10 +1,11 @@
 //! Answers of which one field is missing, has another type or another value than a node's: each is told as bad, and
-//! nothing is written.
+//! nothing is written. But of a member that was forgotten some fields aren't read.
 
-use crate::answers::{FINE, edited};
-use crate::bodies::{ALIVE, CHANGE, FAILED, HEALTH, SUSPECT};
+use crate::answers::{FINE, answer, edited};
+use crate::bodies::{ALIVE, CHANGE, FAILED, FORGOTTEN, FORGOTTEN_TEXT, HEALTH, SUSPECT};
 use crate::damaged::is_bad_body;
-use crate::playing::{Asking, Command};
+use crate::playing::{Asking, Command, played};
+use crate::server::Reply;
 use std::alloc::Global;
 use std::net::{Net, TcpListener, TcpStream};
 use std::thread::Threads;
@@ -37,6 +38,7 @@ const NAMED: &[(Command, &str, &str)] = &[
     (Command::Members, SUSPECT, "\"c\""),
     (Command::Status, HEALTH, "\"b\""),
     (Command::Watch, CHANGE, "\"a\""),
+    (Command::Watch, FORGOTTEN, "\"c\""),
 ];
 
 /// Edits of a member that is suspected.
@@ -62,6 +64,7 @@ const OF_SUSPECTS: &[Edit] = &[
     ("\"suspect\"", "\"alive\""),
     ("\"suspect\"", "\"failed\""),
     ("\"suspect\"", "\"left\""),
+    ("\"suspect\"", "\"forgotten\""),
     ("\"accuser\":\"c\"", "\"accused\":\"c\""),
     (",\"accuser\":\"c\"", ""),
 ];
@@ -69,6 +72,7 @@ const OF_SUSPECTS: &[Edit] = &[
 /// Edits of a member that is alive.
 const OF_LIVE_ONES: &[Edit] = &[
     ("\"alive\"", "\"suspect\""),
+    ("\"alive\"", "\"forgotten\""),
     ("null", "\"c\""),
     ("null", "\"\""),
     ("null", "0"),
@@ -79,6 +83,7 @@ const OF_LIVE_ONES: &[Edit] = &[
 /// Edits of a member that has failed.
 const OF_FAILED_ONES: &[Edit] = &[
     ("\"failed\"", "\"suspect\""),
+    ("\"failed\"", "\"forgotten\""),
     ("null", "\"a\""),
     (",\"accuser\":null", ""),
 ];
@@ -166,6 +171,56 @@ const OF_CHANGES: &[Edit] = &[
     (",\"accuser\":null", ""),
 ];
 
+/// Edits of a member that was forgotten.
+const OF_FORGOTTEN_ONES: &[Edit] = &[
+    ("{\"version\":90,\"missed\"", "{\"missed\""),
+    ("\"missed\":false,", ""),
+    ("\"changes\":[", "\"changes\":[7,"),
+    ("\"changes\":[", "\"changes\":[{},"),
+    ("\"moment_ms\":90000,", ""),
+    ("\"moment_ms\":90000", "\"moment_ms\":null"),
+    ("\"moment_ms\":90000", "\"moment_ms\":\"90000\""),
+    ("\"moment_ms\":90000", "\"moment_ms\":-1"),
+    ("\"moment_ms\":90000", "\"moment_ms\":90000.5"),
+    ("\"name\":\"c\",", ""),
+    ("\"name\":\"c\"", "\"Name\":\"c\""),
+    ("\"status\":\"forgotten\",", ""),
+    ("\"status\":", "\"state\":"),
+    ("\"forgotten\"", "\"\""),
+    ("\"forgotten\"", "\"Forgotten\""),
+    ("\"forgotten\"", "\"forgotten \""),
+    ("\"forgotten\"", "\"forgot\""),
+    ("\"forgotten\"", "\"alive\""),
+    ("\"forgotten\"", "\"suspect\""),
+    ("\"forgotten\"", "\"failed\""),
+    ("\"forgotten\"", "\"left\""),
+    ("\"forgotten\"", "7"),
+    ("\"forgotten\"", "null"),
+    ("\"forgotten\"", "true"),
+    ("\"forgotten\"", "[\"forgotten\"]"),
+];
+
+/// Edits of what isn't read of a member that was forgotten.
+const UNREAD: &[Edit] = &[
+    ("{\"version\":90,\"moment_ms\"", "{\"moment_ms\""),
+    ("\"incarnation\":null,", ""),
+    ("\"address\":null,", ""),
+    ("\"port\":null,", ""),
+    (",\"accuser\":null", ""),
+    (
+        "\"version\":90,\"moment_ms\"",
+        "\"version\":-1,\"moment_ms\"",
+    ),
+    ("\"incarnation\":null", "\"incarnation\":7"),
+    ("\"incarnation\":null", "\"incarnation\":1000000001"),
+    ("\"address\":null", "\"address\":\"127.0.0.1\""),
+    ("\"address\":null", "\"address\":\"\""),
+    ("\"port\":null", "\"port\":7103"),
+    ("\"port\":null", "\"port\":{}"),
+    ("\"accuser\":null", "\"accuser\":\"a\""),
+    ("\"accuser\":null", "\"accuser\":\"\""),
+];
+
 /// The numbers of a health: each key and value, as they stand in it.
 const NUMBERS: &[Edit] = &[
     ("\"score\":", "0"),
@@ -221,6 +276,7 @@ const TABLES: &[(Command, &str, &[Edit])] = &[
     (Command::Status, HEALTH, OF_HEALTHS),
     (Command::Watch, CHANGE, OF_CHANGES),
     (Command::Watch, CHANGE, OF_RECORDS),
+    (Command::Watch, FORGOTTEN, OF_FORGOTTEN_ONES),
 ];
 
 /// Each edit of each table.
@@ -235,6 +291,31 @@ fn edits(rt: HostRuntime) {
                 "{command:?}, {edit:?}: {met:?}"
             );
         }
+    }
+}
+
+/// Whether the same is told of a member that was forgotten if one text stands in the place of another.
+fn is_unread<R>(rt: &R, alloc: Global, old: &str, new: &str) -> io::Result<bool>
+where
+    R: Net<Listener = TcpListener, Stream = TcpStream> + rt::Clock + Threads + Sync,
+{
+    let Some(body) = edited(alloc, FORGOTTEN, old, new)? else {
+        return Ok(false);
+    };
+    let bytes = answer(alloc, FINE, body.as_bytes())?;
+    let replies = [Reply::whole(bytes.as_slice())];
+    let played = played(rt, alloc, &replies, &Asking::by(Command::Watch, false))?;
+    let text = FORGOTTEN_TEXT.as_bytes();
+    Ok(played.outcome.is(7, text, "lg: no answer\n"))
+}
+
+/// Each edit of what isn't read.
+#[test]
+fn unread(rt: HostRuntime) {
+    for edit in UNREAD {
+        let (old, new) = *edit;
+        let met = is_unread(&rt, rt.alloc(), old, new);
+        assert!(rt; met.as_ref().is_ok_and(|met| *met), "{edit:?}: {met:?}");
     }
 }
 

@@ -1,7 +1,7 @@
 //! Nobody answers, or not to the end; and texts that are no address.
 
 use crate::answers::{FINE, answer};
-use crate::bodies::{CHANGE, CHANGE_TEXT, HEALTH, SUSPECT};
+use crate::bodies::{CHANGE, CHANGE_TEXT, FORGOTTEN, HEALTH, SUSPECT};
 use crate::playing::{Asking, COMMANDS, Command, Outcome, deserted, played};
 use crate::server::Reply;
 use std::alloc::Global;
@@ -78,6 +78,7 @@ const WELL: &[(Command, &str)] = &[
     (Command::Members, SUSPECT),
     (Command::Status, HEALTH),
     (Command::Watch, CHANGE),
+    (Command::Watch, FORGOTTEN),
 ];
 
 /// The place of the first byte of an answer behind which the end isn't told as it should be: nothing is written, and
@@ -104,7 +105,7 @@ fn cut_off(rt: HostRuntime) {
         let first = first_untold(&rt, rt.alloc(), *command, body);
         assert!(rt;
             first.as_ref().is_ok_and(|first| first.is_none()),
-            "{command:?}: {first:?}"
+            "{command:?}, {body}: {first:?}"
         );
     }
 }

@@ -1,6 +1,7 @@
 //! What `watch` asks for and writes, answer by answer.
 
 use crate::answers::{FINE, answer};
+use crate::bodies::{FORGOTTEN, FORGOTTEN_TEXT};
 use crate::playing::{Asking, Command, Seen, played};
 use crate::server::Reply;
 use std::alloc::Global;
@@ -55,6 +56,56 @@ pub(crate) const LIFE: [Turn; 6] = [
         "0 record b alive 5 127.0.0.1:7102\n",
     ),
 ];
+
+/// A node that forgets members.
+const FORGETTING: [Turn; 5] = [
+    // Between records.
+    (
+        "/v1/changes?after=0&wait_ms=30000",
+        "{\"version\":42,\"missed\":false,\"changes\":[{\"version\":40,\"moment_ms\":4000,\"name\":\"c\",\
+         \"status\":\"failed\",\"incarnation\":0,\"address\":\"127.0.0.1\",\"port\":7103,\"accuser\":null},\
+         {\"version\":41,\"moment_ms\":64000,\"name\":\"c\",\"status\":\"forgotten\",\"incarnation\":null,\
+         \"address\":null,\"port\":null,\"accuser\":null},\
+         {\"version\":42,\"moment_ms\":64001,\"name\":\"d\",\"status\":\"alive\",\"incarnation\":0,\
+         \"address\":\"127.0.0.1\",\"port\":7104,\"accuser\":null}]}",
+        "4000 record c failed 0 127.0.0.1:7103\n64000 forgotten c\n64001 record d alive 0 127.0.0.1:7104\n",
+    ),
+    // Alone.
+    (
+        "/v1/changes?after=42&wait_ms=30000",
+        FORGOTTEN,
+        FORGOTTEN_TEXT,
+    ),
+    // Two, of which one comes back at once. The least and the greatest moment, the longest name.
+    (
+        "/v1/changes?after=90&wait_ms=30000",
+        "{\"version\":91,\"missed\":false,\"changes\":[{\"version\":91,\"moment_ms\":0,\"name\":\"forgotten\",\
+         \"status\":\"forgotten\",\"incarnation\":null,\"address\":null,\"port\":null,\"accuser\":null},\
+         {\"version\":91,\"moment_ms\":18446744073709551615,\"name\":\"ABCDEFGHIJKLMNOPQRSTUVWXYZ._-019\",\
+         \"status\":\"forgotten\",\"incarnation\":null,\"address\":null,\"port\":null,\"accuser\":null},\
+         {\"version\":91,\"moment_ms\":0,\"name\":\"forgotten\",\"status\":\"alive\",\"incarnation\":7,\
+         \"address\":\"127.0.0.1\",\"port\":7105,\"accuser\":null}]}",
+        "0 forgotten forgotten\n18446744073709551615 forgotten ABCDEFGHIJKLMNOPQRSTUVWXYZ._-019\n\
+         0 record forgotten alive 7 127.0.0.1:7105\n",
+    ),
+    // Behind changes that were missed.
+    (
+        "/v1/changes?after=91&wait_ms=30000",
+        "{\"version\":2000,\"missed\":true,\"changes\":[{\"version\":2000,\"moment_ms\":7,\"name\":\"c\",\
+         \"status\":\"forgotten\",\"incarnation\":null,\"address\":null,\"port\":null,\"accuser\":null}]}",
+        "missed\n7 forgotten c\n",
+    ),
+    // In another order, with a field that nobody knows, and without those that aren't read.
+    (
+        "/v1/changes?after=2000&wait_ms=30000",
+        "{\"changes\":[{\"status\":\"f\\u006frgotten\",\"since\":[1],\"name\":\"d\",\"moment_ms\":8}],\
+         \"missed\":false,\"version\":2001}",
+        "8 forgotten d\n",
+    ),
+];
+
+/// Both.
+const LIVES: &[&[Turn]] = &[&LIFE, &FORGETTING];
 
 /// What `watch` wrote of the answers of a node, and what it has to have written.
 #[derive(Drop, Debug)]
@@ -118,22 +169,20 @@ where
     })
 }
 
-/// A life up to each of its turns, and then its end.
+/// Each life up to each of its turns, and then its end.
 #[test]
 fn lives(rt: HostRuntime) {
-    for count in 0..LIFE.len() + 1 {
-        for json in [false, true] {
-            let watched = watched(
-                &rt,
-                rt.alloc(),
-                &LIFE[..count],
-                &Asking::by(Command::Watch, json),
-            );
-            let met = watched.as_ref().is_ok_and(|watched| {
-                let text = watched.text.as_bytes();
-                watched.has_asked && watched.played.outcome.is(7, text, "lg: no answer\n")
-            });
-            assert!(rt; met, "{count} turns, json {json}: {watched:?}");
+    for life in LIVES {
+        for count in 0..life.len() + 1 {
+            for json in [false, true] {
+                let asking = Asking::by(Command::Watch, json);
+                let watched = watched(&rt, rt.alloc(), &life[..count], &asking);
+                let met = watched.as_ref().is_ok_and(|watched| {
+                    let text = watched.text.as_bytes();
+                    watched.has_asked && watched.played.outcome.is(7, text, "lg: no answer\n")
+                });
+                assert!(rt; met, "{count} turns, json {json}: {watched:?}");
+            }
         }
     }
 }

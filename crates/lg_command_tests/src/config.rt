@@ -18,17 +18,20 @@ struct Row {
     dice: u64,
     /// `pull_ms` and `stall_ms`.
     own: [u64; 2],
-    /// The numbers, in the order of the keys: from `interval_ms` to `history_limit`, `wire`, `gossip_ms`, `gossip_to`.
-    numbers: [u64; 13],
+    /// The numbers, in the order of the keys: from `interval_ms` to `history_limit`, `wire`, `forget_ms`, `gossip_ms`,
+    /// `gossip_to`.
+    numbers: [u64; 14],
     seeds: &'static [Known],
     /// Where the status server listens, and `status_open`.
     status: (Option<Addr>, bool),
     /// The path of the key file.
     key_file: Option<&'static str>,
+    /// The name of the group.
+    group: Option<&'static [u8]>,
 }
 
 /// The numbers of a file that gives none.
-const USUAL: [u64; 13] = [1000, 500, 3, 8, 5, 6, 3, 4, 800, 20_000, 1, 200, 3];
+const USUAL: [u64; 14] = [1000, 500, 3, 8, 5, 6, 3, 4, 800, 20_000, 1, 0, 200, 3];
 
 /// A file with all keys.
 const ALL: &str = "\
@@ -46,7 +49,8 @@ confirmations = 4
 lambda = 5
 nack_thousandths = 6
 history_limit = 7
-wire = 2
+wire = 3
+forget_ms = 86400000
 gossip_ms = 0
 gossip_to = 8
 pull_ms = 3600000
@@ -54,6 +58,7 @@ stall_ms = 0
 status = \"10.1.2.3:8946\"
 status_open = true
 key_file = \"/etc/lg/group.key\"
+group = \"grn\"
 seeds = [\"c@127.0.0.1:7002\", \"a@1.2.3.4:5\"]
 ";
 
@@ -80,6 +85,7 @@ fn is_of(node: &NodeConfig, row: &Row) -> bool {
         config.nack_thousandths,
         config.history_limit,
         config.wire,
+        config.forget_ms,
         config.gossip_ms,
         config.gossip_to,
     ];
@@ -89,6 +95,8 @@ fn is_of(node: &NodeConfig, row: &Row) -> bool {
         && [node.pull_ms, node.stall_ms] == row.own
         && (node.status, node.status_open) == row.status
         && node.key_file.as_ref().map(|path| path.as_str()) == row.key_file
+        && config.group == row.group.map(|letters| name(letters))
+        && config.first == 1
         && config.seeds.len() == row.seeds.len()
         && config.seeds.iter().zip(row.seeds).all(|(seed, known)| {
             seed.name == name(known.0) && seed.addr == Addr::v4(known.1, known.2)
@@ -110,6 +118,7 @@ fn each_value(rt: HostRuntime) {
         seeds: &[],
         status: (None, false),
         key_file: None,
+        group: None,
     };
     let rows = [
         alone,
@@ -123,10 +132,11 @@ fn each_value(rt: HostRuntime) {
             port: 7001,
             dice: 42,
             own: [3_600_000, 0],
-            numbers: [200, 50, 0, 1, 2, 3, 4, 5, 6, 7, 2, 0, 8],
+            numbers: [200, 50, 0, 1, 2, 3, 4, 5, 6, 7, 3, 86_400_000, 0, 8],
             seeds: &[(b"c", [127, 0, 0, 1], 7002), (b"a", [1, 2, 3, 4], 5)],
             status: (Some(Addr::v4([10, 1, 2, 3], 8946)), true),
             key_file: Some("/etc/lg/group.key"),
+            group: Some(b"grn"),
         },
         Row {
             text: "name = \"b\"\npull_ms = 0\nstall_ms = 60000",
@@ -208,13 +218,14 @@ fn reasons(rt: HostRuntime) {
 
 /// Unknown keys, each with the known key that the reason names. Three edits are few of eight bytes, two of six, and one
 /// of three; four are too many, and so are two of four bytes. Two edits lead from `all_ms` to `pull_ms` and to
-/// `stall_ms`, of which the first counts.
-const UNKNOWN_KEYS: [(&str, Option<&str>); 14] = [
+/// `stall_ms`, of which the first counts. The first number of a probe is no key of a file.
+const UNKNOWN_KEYS: [(&str, Option<&str>); 16] = [
     ("intervall_ms", Some("interval_ms")),
     ("interval", Some("interval_ms")),
     ("nack_thousandth", Some("nack_thousandths")),
     ("status_opne", Some("status_open")),
     ("keyfile", Some("key_file")),
+    ("groups", Some("group")),
     ("Port", Some("port")),
     ("por", Some("port")),
     ("ports_", Some("port")),
@@ -224,6 +235,7 @@ const UNKNOWN_KEYS: [(&str, Option<&str>); 14] = [
     ("po", None),
     ("interval_ms____", None),
     ("colour", None),
+    ("first", None),
 ];
 
 /// Whether the reason of a file with an unknown key is the one that is wanted. If memory is refused, that is the only

@@ -45,10 +45,19 @@ const CONFIGS: &[(ConfigFault, &str)] = &[
     ),
     (ConfigFault::Wire, "wire has to be 1 to 3"),
     (
+        ConfigFault::Forget,
+        "forget_ms has to be 0 or 1000 to 2592000000",
+    ),
+    (
         ConfigFault::GossipMs,
         "gossip_ms has to be 0 or 10 to 60000",
     ),
     (ConfigFault::GossipTo, "gossip_to has to be 1 to 8"),
+    (ConfigFault::First, "first has to be 1 to 4294967295"),
+    (
+        ConfigFault::Group,
+        "a member of a group has to have wire = 3",
+    ),
 ];
 
 const PACKETS: &[(Fault, &str)] = &[

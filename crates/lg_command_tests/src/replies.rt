@@ -1,6 +1,6 @@
 //! The lines of replies that no script gives: many packets, great numbers, and all parts at once.
 use arrayvec::ArrayVec;
-use lg_detector::{Answer, Event, MAX_SENDS, Outgoing, Reply, Timer, TimerId};
+use lg_detector::{Answer, Event, MAX_FORGOTTEN, MAX_SENDS, Outgoing, Reply, Timer, TimerId};
 use lg_lines::put_reply;
 use lg_rules::{Addr, Claim, MAX_INCARNATION, Name, Status};
 use lg_testing::{ack, at, claim, incarnation, letter, local, name, packet};
@@ -38,6 +38,9 @@ fn full() -> Reply {
     let suspect = record(b'b', 7002, Status::Suspect(letter(b'a')), 0);
     let mut reply = changes(TimerId::RoundStart, &[suspect], 600);
     reply.answer = Some(Answer::Status(None));
+    if !reply.forgotten.is_full() {
+        reply.forgotten.push(letter(b'c'));
+    }
     reply.ousted = true;
     reply
 }
@@ -51,6 +54,17 @@ fn sending() -> Reply {
                 to: local(9),
                 packet: packet(b'a', ack(number), &[]),
             });
+        }
+    }
+    reply
+}
+
+/// A reply with as many forgotten names as it can have.
+fn forgetting() -> Reply {
+    let mut reply = changes(TimerId::Forget(letter(b'a')), &[], 7);
+    for number in 0..MAX_FORGOTTEN as u8 {
+        if !reply.forgotten.is_full() {
+            reply.forgotten.push(letter(b'a' + number));
         }
     }
     reply
@@ -114,7 +128,8 @@ fn writes_replies(rt: HostRuntime) {
         Case {
             first: 1,
             reply: full(),
-            lines: "fired round-start\nanswer none\nrecord b suspect 0 127.0.0.1:7002 by a\nousted\nnext 600\n",
+            lines: "fired round-start\nanswer none\nrecord b suspect 0 127.0.0.1:7002 by a\nforgot c\nousted\n\
+                next 600\n",
         },
         Case {
             first: 4_294_967_295,
@@ -128,6 +143,14 @@ fn writes_replies(rt: HostRuntime) {
                 send 4294967300 127.0.0.1:9 534c010301610000000500\n\
                 send 4294967301 127.0.0.1:9 534c010301610000000600\n\
                 send 4294967302 127.0.0.1:9 534c010301610000000700\n\
+                next 7\n",
+        },
+        Case {
+            first: 1,
+            reply: forgetting(),
+            lines: "fired forget a\n\
+                forgot a\nforgot b\nforgot c\nforgot d\nforgot e\nforgot f\n\
+                forgot g\nforgot h\nforgot i\nforgot j\nforgot k\nforgot l\n\
                 next 7\n",
         },
         Case {

@@ -16,7 +16,7 @@ use Rattle.lg_rules.proofs.Tests.{both}
 use Rattle.lg_probe.specs.Meaning.Order.{picks}
 use Rattle.lg_script.specs.Meaning.Values.{random_word_of}
 use Rattle.lg_commands.specs.Meaning.Choosing.{are_different, are_names, choices_of, comma_parts, is_word, name_lines}
-use Rattle.lg_commands.specs.Meaning.Choosing.{names_in, order_text, words_of_text}
+use Rattle.lg_commands.specs.Meaning.Choosing.{names_of_text, order_text, words_of_text}
 use Rattle.lg_commands.specs.declared.order.BadList.{BadList}
 use Rattle.lg_commands.specs.declared.order.BadList.TheVariants.{Names, Words}
 
@@ -57,26 +57,26 @@ not_named text none = go (is_name text) refl
     go true it = let no : Some text ≡ None = sym (ap result_ok (name_is text it)) ∙ none in absurd cc
     go false it = it
 
-not_names : (text : List ℕ) → are_names (comma_parts text) ≡ false → None ≡ names_in text
-unfolding names_in
+not_names : (text : List ℕ) → are_names (comma_parts text) ≡ false → None ≡ names_of_text text
+unfolding names_of_text
 not_names text none = rw none refl
 
 -- a part is no name
 pub bad_name : (text part : List ℕ) (k : ℕ) (d : List ℕ) → k < length (comma_parts text) → part ≡ get_or (comma_parts text) k d → result_ok (name_of_text part) ≡ None
-    → None ≡ names_in text
+    → None ≡ names_of_text text
 bad_name text part k d within is none =
     let parts = comma_parts text in
     let bad : is_name (get_or parts k d) ≡ false = ap is_name (sym is) ∙ not_named part none in
     not_names text (and_right (leb (length parts) 255) _ (and_left (list_all is_name parts) (are_different parts) (list_all_at is_name parts k d within bad)))
 
-pub many_names : (text : List ℕ) → 255 < length (comma_parts text) → None ≡ names_in text
+pub many_names : (text : List ℕ) → 255 < length (comma_parts text) → None ≡ names_of_text text
 many_names text many =
     let parts = comma_parts text in
     not_names text (and_left (leb (length parts) 255) (list_all is_name parts && are_different parts) (lt-leb (length parts) 255 many))
 
 -- 255 names are read, and there is one part more
 pub full_names : {V E : Type 0} (text : List ℕ) (yielded : List (Bor (List ℕ))) (names : List (List ℕ)) (r : Result V E) → HasRead is_name (λ p. p) (map (λ p. p.now) yielded) names
-    → result_ok r ≡ None → OnErr r (length names ≡ 255) → length yielded < length (comma_parts text) → None ≡ names_in text
+    → result_ok r ≡ None → OnErr r (length names ≡ 255) → length yielded < length (comma_parts text) → None ≡ names_of_text text
 full_names text yielded names r has refused full more =
     let some : length names ≡ 255 = at_none r refused full in
     let read : length names ≡ length yielded = ap length has.are ∙ length-map (map (λ (p : Bor (List ℕ)). p.now) yielded) (λ p. p) ∙ length-map yielded (λ p. p.now) in
@@ -84,8 +84,8 @@ full_names text yielded names r has refused full more =
 
 -- each part is a name
 pub all_names : {V : Type 0} (names : V → List (List ℕ)) (v : V) (text : List ℕ) (parts : List (List ℕ)) (different : Bool) → HasRead is_name (λ p. p) parts (names v)
-    → parts ≡ comma_parts text → length (names v) ≤ 255 → different ≡ are_different (names v) → option_map names (then_some different v) ≡ names_in text
-unfolding names_in
+    → parts ≡ comma_parts text → length (names v) ≤ 255 → different ≡ are_different (names v) → option_map names (then_some different v) ≡ names_of_text text
+unfolding names_of_text
 all_names names v text parts different has ends few is =
     let same : names v ≡ comma_parts text = has.are ∙ map-id parts ∙ ends in
     let fits : leb (length (comma_parts text)) 255 ≡ true = le-leb (length (comma_parts text)) 255 (omega (arith, ap length same)) in
@@ -123,13 +123,13 @@ pub of_fault : {V F : Type 0} (r : Result V F) (e : F) (Q : F → Type 0) → Is
 of_fault (Ok v) e Q is q = tt
 of_fault (Err y) e Q is q = subst Q (sym is) q
 
-pub names_bad : {V : Type 0} (items : V → List (List ℕ)) (read : Option V) (names words : List ℕ) (e : BadList) → option_map items read ≡ names_in names → ok_or read Names ≡ Err e
+pub names_bad : {V : Type 0} (items : V → List (List ℕ)) (read : Option V) (names words : List ℕ) (e : BadList) → option_map items read ≡ names_of_text names → ok_or read Names ≡ Err e
     → order_text names words ≡ Err e
 unfolding order_text
 names_bad items None names words e is refused = rw (← is) (let same : Names ≡ e = cc in ap Err same)
 names_bad items (Some v) names words e is refused = absurd cc
 
-pub names_good : {V : Type 0} (items : V → List (List ℕ)) (v : V) (read : Option V) (names words : List ℕ) → option_map items read ≡ names_in names → ok_or read Names ≡ Ok v
+pub names_good : {V : Type 0} (items : V → List (List ℕ)) (v : V) (read : Option V) (names words : List ℕ) → option_map items read ≡ names_of_text names → ok_or read Names ≡ Ok v
     → order_text names words ≡ Err Names → ⊥
 unfolding order_text
 names_good items v None names words is taken bad = absurd cc
@@ -140,7 +140,7 @@ names_good items v (Some u) names words is taken bad = go (words_of_text words) 
     go (Some ws) e = absurd cc
 
 pub words_bad : {V W : Type 0} (items : V → List (List ℕ)) (v : V) (read : Option V) (numbers : W → List ℕ) (listed : Option W) (names words : List ℕ) (e : BadList)
-    → option_map items read ≡ names_in names → ok_or read Names ≡ Ok v → option_map numbers listed ≡ words_of_text words → ok_or listed Words ≡ Err e
+    → option_map items read ≡ names_of_text names → ok_or read Names ≡ Ok v → option_map numbers listed ≡ words_of_text words → ok_or listed Words ≡ Err e
     → order_text names words ≡ Err e
 unfolding order_text
 words_bad items v None numbers listed names words e is taken said refused = absurd cc
@@ -148,7 +148,7 @@ words_bad items v (Some u) numbers None names words e is taken said refused = rw
 words_bad items v (Some u) numbers (Some w) names words e is taken said refused = absurd cc
 
 pub both_good : {V W : Type 0} (items : V → List (List ℕ)) (v : V) (read : Option V) (numbers : W → List ℕ) (w : W) (listed : Option W) (names words : List ℕ)
-    → option_map items read ≡ names_in names → ok_or read Names ≡ Ok v → option_map numbers listed ≡ words_of_text words → ok_or listed Words ≡ Ok w
+    → option_map items read ≡ names_of_text names → ok_or read Names ≡ Ok v → option_map numbers listed ≡ words_of_text words → ok_or listed Words ≡ Ok w
     → (chosen : List (List ℕ)) (text : List ℕ) → chosen ≡ picks (items v) (numbers w) → text ≡ name_lines chosen
     → order_text names words ≡ Ok text
 unfolding order_text

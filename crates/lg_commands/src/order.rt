@@ -5,7 +5,7 @@
 ghost use Rattle.std.specs.Prelude.{◌≡◌, false, Ok, Err, IfErr, IfOk};
 ghost use Rattle.std.specs.Option.{option_map};
 ghost use Rattle.lg_rules.specs.Meaning.Rows.{name_cmp, is_among};
-ghost use Rattle.lg_commands.specs.Meaning.Choosing.{are_different, name_lines, names_in};
+ghost use Rattle.lg_commands.specs.Meaning.Choosing.{are_different, name_lines, names_of_text};
 ghost use Rattle.lg_commands.specs.Meaning.Choosing.{order_text, words_of_text};
 ghost use Rattle.lg_commands.specs.Meaning.Faults.{bad_list_text};
 ghost use Rattle.lg_commands.specs.Meaning.Running.{is_order_unwritten, IsFaultOf};
@@ -105,7 +105,7 @@ fn are_different(names: &[Name]) -> bool
 
 /// The names between the commas of a text, if each part is a name, all are different, and there are at most 255.
 fn names_in(text: &str) -> Option<ArrayVec<Name, MAX_OTHERS>>
-    ensures { option_map (λ names. names.items) result ≡ names_in text.now }
+    ensures { option_map (λ names. names.items) result ≡ names_of_text text.now }
 {
     let mut names = ArrayVec::new();
     for part in text.split(',') {

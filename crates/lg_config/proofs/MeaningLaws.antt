@@ -5,7 +5,7 @@ use Rattle.std.proofs.lemmas.List.{take_all}
 use Rattle.std.proofs.lemmas.Option.{same_Some}
 use Rattle.lg_rules.specs.declared.addr.Addr.{Addr}
 use Rattle.lg_timing.specs.Meaning.Bounds.{most_seeds}
-use Rattle.lg_timing.specs.Meaning.Config.{are_good_seeds, check_of, defaults, fault_checked, first_broken}
+use Rattle.lg_timing.specs.Meaning.Config.{are_good_seeds, can_name_group, check_of, defaults, fault_checked, first_broken, IsChecked}
 use Rattle.lg_timing.specs.Meaning.Keys.{config_fault_number, is_before_seeds}
 use Rattle.lg_timing.specs.declared.config.Config.{Config}
 use Rattle.lg_timing.specs.declared.config.ConfigFault.{ConfigFault}
@@ -20,7 +20,8 @@ use Rattle.lg_config.specs.declared.fault.FileFault.TheVariants as fault
 use Rattle.lg_config.specs.declared.node.NodeConfig.{NodeConfig}
 use Rattle.lg_config.specs.declared.node_keys.NodeKey.{NodeKey}
 use Rattle.lg_config.specs.declared.node_keys.NodeKey.TheVariants.{PullMs, StallMs}
-use Rattle.lg_config.specs.Meaning.Answer.{and_key_file, and_late, and_status, is_late, meaning_of, unless_broken, unless_config, unless_late, unless_node}
+use Rattle.lg_config.specs.Meaning.Answer.{and_group, and_key_file, and_late, and_status, is_late, meaning_of, unless_broken, unless_config, unless_late, unless_node}
+use Rattle.lg_config.specs.Meaning.Groups.{group_in, with_group}
 use Rattle.lg_config.specs.Meaning.KeyFiles.{key_file_in, with_key_file}
 use Rattle.lg_config.specs.Meaning.Keys.{are_right_keys}
 use Rattle.lg_config.specs.Meaning.NodeKeys.{own_broken}
@@ -33,26 +34,27 @@ use Rattle.lg_config.proofs.SeedLaws.{seeds-counted}
 -- ---- the check, if the seeds aren't good
 
 -- a key that is out of its range, and seeds that aren't good
-key-or-seeds : (key : Key) (good : Bool) → fault_checked (Some key) false ≡ Err (fault_of_many (fault_checked (Some key) good))
-key-or-seeds key good = step (is_before_seeds key) good refl
+key-or-seeds : (key : Key) (good named : Bool) → fault_checked (Some key) false named ≡ Err (fault_of_many (fault_checked (Some key) good named))
+key-or-seeds key good named = step (is_before_seeds key) good refl
   where
-    step : (before good : Bool) → is_before_seeds key ≡ before → fault_checked (Some key) false ≡ Err (fault_of_many (fault_checked (Some key) good))
+    step : (before good : Bool) → is_before_seeds key ≡ before → fault_checked (Some key) false named ≡ Err (fault_of_many (fault_checked (Some key) good named))
     step true true e = rw e refl
     step true false e = rw (e, e) refl
     step false true e = rw e refl
     step false false e = rw e refl
 
-bad-seeds : (broken : Option Key) (good : Bool) → fault_checked broken false ≡ Err (fault_of_many (fault_checked broken good))
-bad-seeds None true = refl
-bad-seeds None false = refl
-bad-seeds (Some key) good = key-or-seeds key good
+bad-seeds : (broken : Option Key) (good named : Bool) → fault_checked broken false named ≡ Err (fault_of_many (fault_checked broken good named))
+bad-seeds None true true = refl
+bad-seeds None true false = refl
+bad-seeds None false named = refl
+bad-seeds (Some key) good named = key-or-seeds key good named
 
 -- too many seeds
 many-seeds : (c : Config) (seeds : List Seed) → most_seeds < length seeds → check_of (with_seeds seeds c) ≡ Err (fault_of_many (check_of (with_seeds (kept seeds) c)))
 unfolding check_of
 many-seeds c seeds many =
     let past : leb (length seeds) most_seeds ≡ false = grind (arith, nat_tests) in
-    rw past (bad-seeds (first_broken c) (are_good_seeds c.name (kept seeds)))
+    rw past (bad-seeds (first_broken c) (are_good_seeds c.name (kept seeds)) (can_name_group c.group c.wire))
 
 -- ---- the seeds that settings have
 
@@ -171,13 +173,21 @@ within-and_late : (r : Result NodeConfig FileFault) → IfOk r HasWithin → IfO
 within-and_late (Err found) within = tt
 within-and_late (Ok node) within = within-unless_late node (check_of node.config) within
 
+within-group : (node : NodeConfig) (group : Result (Option (List ℕ)) FileFault) → HasWithin node → IfOk (with_group node group) HasWithin
+within-group node (Err found) within = tt
+within-group node (Ok group) within = within
+
+within-and_group : (m : Members) (r : Result NodeConfig FileFault) → IfOk r HasWithin → IfOk (and_group m r) HasWithin
+within-and_group m (Err found) within = tt
+within-and_group m (Ok node) within = within-group node (group_in m) within
+
 within-if_right : (m : Members) (right : Bool) (r : Result NodeConfig FileFault) → IfOk r HasWithin → IfOk (if right then r else Err fault.Key) HasWithin
 within-if_right m true r within = within
 within-if_right m false r within = tt
 
 pub within-meaning : (m : Members) → IfOk (meaning_of m) HasWithin
 within-meaning m =
-    within-if_right m (are_right_keys m) _ (within-and_late _ (within-and_key_file m _ (within-and_status m _ (within-node (settings_of m)))))
+    within-if_right m (are_right_keys m) _ (within-and_late _ (within-and_group m _ (within-and_late _ (within-and_key_file m _ (within-and_status m _ (within-node (settings_of m)))))))
 
 -- ---- and the status server of a configuration that is given may listen where it is to
 
@@ -215,10 +225,39 @@ guarded-and_late : (r : Result NodeConfig FileFault) → IfOk r IsGuarded → If
 guarded-and_late (Err found) guarded = tt
 guarded-and_late (Ok node) guarded = guarded-unless_late node (check_of node.config) guarded
 
+guarded-group : (node : NodeConfig) (group : Result (Option (List ℕ)) FileFault) → IsGuarded node → IfOk (with_group node group) IsGuarded
+guarded-group node (Err found) guarded = tt
+guarded-group node (Ok group) guarded = guarded
+
+guarded-and_group : (m : Members) (r : Result NodeConfig FileFault) → IfOk r IsGuarded → IfOk (and_group m r) IsGuarded
+guarded-and_group m (Err found) guarded = tt
+guarded-and_group m (Ok node) guarded = guarded-group node (group_in m) guarded
+
 guarded-if_right : (right : Bool) (r : Result NodeConfig FileFault) → IfOk r IsGuarded → IfOk (if right then r else Err fault.Key) IsGuarded
 guarded-if_right true r guarded = guarded
 guarded-if_right false r guarded = tt
 
 pub guarded-meaning : (m : Members) → IfOk (meaning_of m) IsGuarded
 guarded-meaning m =
-    guarded-if_right (are_right_keys m) _ (guarded-and_late _ (guarded-and_key_file m _ (guarded-and_status m (unless_node (settings_of m)))))
+    guarded-if_right (are_right_keys m) _ (guarded-and_late _ (guarded-and_group m _ (guarded-and_late _ (guarded-and_key_file m _ (guarded-and_status m (unless_node (settings_of m)))))))
+
+-- ---- and the member's configuration passes its check
+
+abbrev HasPassed : NodeConfig → Type 0
+HasPassed node = IsChecked node.config
+
+passed-unless_late : (node : NodeConfig) (r : Result (Unit {0}) ConfigFault) → check_of node.config ≡ r → IfOk (unless_late node r) HasPassed
+passed-unless_late node (Ok passed) is = is
+passed-unless_late node (Err broken) is = tt
+
+passed-and_late : (r : Result NodeConfig FileFault) → IfOk (and_late r) HasPassed
+passed-and_late (Err found) = tt
+passed-and_late (Ok node) = passed-unless_late node (check_of node.config) refl
+
+passed-if_right : (right : Bool) (r : Result NodeConfig FileFault) → IfOk r HasPassed → IfOk (if right then r else Err fault.Key) HasPassed
+passed-if_right true r passed = passed
+passed-if_right false r passed = tt
+
+pub passed-meaning : (m : Members) → IfOk (meaning_of m) HasPassed
+passed-meaning m =
+    passed-if_right (are_right_keys m) _ (passed-and_late (and_group m (and_late (and_key_file m (and_status m (unless_node (settings_of m)))))))

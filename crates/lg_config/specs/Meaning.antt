@@ -4,9 +4,13 @@ pub mod Bounds
 pub mod Examples
 pub mod Faults
 pub mod FormReasons
+pub mod GroupExamples
+pub mod GroupReasons
+pub mod Groups
 pub mod KeyFiles
 pub mod KeyReasons
 pub mod Keys
+pub mod LateExamples
 pub mod NearestKeys
 pub mod NodeKeys
 pub mod Quoting

@@ -15,8 +15,8 @@ use thiserror::Error;
 /// Why a file means no configuration (this project's choice).
 #[derive(Clone, Copy, Debug, PartialEq, Eq, Error)]
 pub enum FileFault {
-    /// A number is out of its range, or the seeds are too many, share a name or have this member's name. If there are
-    /// several such faults, it is the one with the least number.
+    /// A number is out of its range, the seeds are too many, share a name or have this member's name, or the group is
+    /// no name or has another `wire` than 3. If there are several such faults, it is the one with the least number.
     #[error(transparent)]
     Config(ConfigFault),
     /// The file has more than 65,536 bytes, isn't UTF-8 or isn't TOML.

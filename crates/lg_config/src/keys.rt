@@ -5,7 +5,8 @@
 ghost use Rattle.std.specs.Prelude.{◌≡◌};
 ghost use Rattle.std.specs.List.{list_all};
 ghost use Rattle.toml.specs.View.{view, items_view, table_view};
-ghost use Rattle.lg_config.specs.Meaning.Keys.{are_right_keys, are_texts, is_of_kind, kind_of_key};
+ghost use Rattle.lg_config.specs.Meaning.Keys.{are_right_keys, are_texts, file_key_named, is_of_kind, kind_of_key};
+ghost use Rattle.lg_timing.specs.Meaning.Keys.{has_key_name};
 
 use crate::node_keys::NodeKey;
 use lg_timing::Key;
@@ -33,11 +34,48 @@ pub(crate) const SEEDS: &str = "seeds";
 /// The key of the path of the key file.
 pub(crate) const KEY_FILE: &str = "key_file";
 
+/// The key of the group of members.
+pub(crate) const GROUP: &str = "group";
+
 /// The key of the status server's address.
 pub(crate) const STATUS: &str = "status";
 
 /// The key of whether the status server may listen at an address that isn't loopback.
 pub(crate) const STATUS_OPEN: &str = "status_open";
+
+/// The keys of the numbers of the member's that a file may give, in the order in which they are judged: all but
+/// [`Key::First`].
+pub const FILE_KEYS: [Key; 14] = [
+    Key::IntervalMs,
+    Key::TimeoutMs,
+    Key::Indirect,
+    Key::MaxScore,
+    Key::Alpha,
+    Key::Beta,
+    Key::Confirmations,
+    Key::Lambda,
+    Key::NackThousandths,
+    Key::HistoryLimit,
+    Key::Wire,
+    Key::ForgetMs,
+    Key::GossipMs,
+    Key::GossipTo,
+];
+
+/// Whether a word is the name of a key.
+fn has_name(key: Key, word: &[u8]) -> bool
+    ensures { result ≡ has_key_name word.now key }
+{
+    word == key.name().as_bytes()
+}
+
+/// The key with a name of a number of the member's that a file may give. None if no such key has it.
+#[tactic(auto, unfolding(crate::specs::Meaning::Keys::file_key_named))]
+fn file_key_named(word: &[u8]) -> Option<Key>
+    ensures { result ≡ file_key_named word.now }
+{
+    FILE_KEYS.iter().copied().find(|key| has_name(*key, word))
+}
 
 /// The kind of a key's value. None if the key is unknown.
 #[tactic(auto, unfolding(crate::specs::Meaning::Keys::kind_of_key))]
@@ -45,11 +83,11 @@ pub(crate) fn kind_of(key: &str) -> Option<Kind>
     ensures { result ≡ kind_of_key key.now }
 {
     match key {
-        "name" | "address" | "key_file" => Some(Kind::Text),
+        "name" | "address" | "key_file" | "group" => Some(Kind::Text),
         "port" | "dice" => Some(Kind::Number),
         "seeds" => Some(Kind::Texts),
         "status" | "status_open" => Some(Kind::Any),
-        _ if Key::named(key.as_bytes()).is_some() => Some(Kind::Number),
+        _ if file_key_named(key.as_bytes()).is_some() => Some(Kind::Number),
         _ if NodeKey::named(key.as_bytes()).is_some() => Some(Kind::Number),
         _ => None,
     }

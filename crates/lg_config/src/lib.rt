@@ -8,6 +8,8 @@
 mod document;
 mod fault;
 mod form_reasons;
+mod group;
+mod group_reasons;
 mod key_file;
 mod key_reasons;
 mod keys;
@@ -27,6 +29,7 @@ mod texts;
 pub use document::MAX_FILE;
 pub use fault::{FileFault, ReadFault};
 pub use key_file::{FilePath, MAX_PATH};
+pub use keys::FILE_KEYS;
 pub use node::NodeConfig;
 pub use node_keys::{MAX_PULL_MS, MAX_STALL_MS, NODE_KEYS, NodeKey, NodeKeyRow};
 pub use reasons::reason;

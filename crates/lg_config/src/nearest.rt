@@ -14,7 +14,7 @@ use strsim::generic_levenshtein;
 const MAX_EDITS: usize = 3;
 
 /// All known keys, in the order in which `docs/FORMATS.md` has them.
-const KNOWN_KEYS: [&str; 23] = [
+const KNOWN_KEYS: [&str; 25] = [
     "name",
     "address",
     "port",
@@ -24,6 +24,7 @@ const KNOWN_KEYS: [&str; 23] = [
     "status",
     "status_open",
     "key_file",
+    "group",
     "seeds",
     "interval_ms",
     "timeout_ms",
@@ -36,6 +37,7 @@ const KNOWN_KEYS: [&str; 23] = [
     "nack_thousandths",
     "history_limit",
     "wire",
+    "forget_ms",
     "gossip_ms",
     "gossip_to",
 ];

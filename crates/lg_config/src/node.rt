@@ -13,6 +13,7 @@ ghost use Rattle.lg_config.specs.Support.Reading.{fault_of_many};
 
 use crate::document::table_in;
 use crate::fault::{FileFault, ReadFault};
+use crate::group::with_group;
 use crate::key_file::{FilePath, with_key_file};
 use crate::keys::are_right_keys;
 use crate::lookup::seeds_at;
@@ -102,8 +103,8 @@ fn unless_late(node: NodeConfig) -> Result<NodeConfig, FileFault>
     }
 }
 
-/// The settings of a table whose keys are right, or their fault. The status server and the path of the key file aren't
-/// read yet, and the faults that count last aren't judged.
+/// The settings of a table whose keys are right, or their fault. The status server, the path of the key file and the
+/// group aren't read yet, and the faults that count last aren't judged.
 fn judged_in(table: &Table) -> Result<NodeConfig, FileFault>
     ensures { result ≡ unless_node (settings_of (table_view table.now)) }
 {
@@ -125,6 +126,8 @@ fn meaning_in(table: &Table) -> Result<NodeConfig, FileFault>
     let node = judged_in(table)?;
     let node = with_status(table, node)?;
     let node = with_key_file(table, node)?;
+    let node = unless_late(node)?;
+    let node = with_group(table, node)?;
     unless_late(node)
 }
 
@@ -155,12 +158,12 @@ impl NodeConfig {
     /// The configuration that the bytes of a file mean.
     ///
     /// The file is TOML. Its keys are `name`, which it must have, `address`, `port`, `dice`, `seeds`, the numbers of
-    /// [`Config`] and those of [`NodeKey`], by the names of their fields, `status`, `status_open` and `key_file`. The
-    /// error is [`ReadFault::File`] with the first of these: [`FileFault::Syntax`], [`FileFault::Key`],
-    /// [`FileFault::Value`], [`FileFault::Config`], [`FileFault::Pull`], [`FileFault::Stall`], [`FileFault::Status`],
-    /// [`FileFault::StatusOpen`], [`FileFault::StatusNotLoopback`] and [`FileFault::KeyFile`]. A
-    /// [`FileFault::Config`] whose number is greater than that of `KeyFile` comes behind all of these. Or the error is
-    /// [`ReadFault::NoMemory`], and then nothing is known of the file.
+    /// [`Config`] but for `first`, and those of [`NodeKey`], by the names of their fields, `status`, `status_open`,
+    /// `key_file` and `group`. The error is [`ReadFault::File`] with the first of these: [`FileFault::Syntax`],
+    /// [`FileFault::Key`], [`FileFault::Value`], [`FileFault::Config`], [`FileFault::Pull`], [`FileFault::Stall`],
+    /// [`FileFault::Status`], [`FileFault::StatusOpen`], [`FileFault::StatusNotLoopback`] and [`FileFault::KeyFile`].
+    /// A [`FileFault::Config`] whose number is greater than that of `KeyFile` comes behind all of these. Or the error
+    /// is [`ReadFault::NoMemory`], and then nothing is known of the file.
     ///
     /// Memory is allocated for the table that the file spells, and is freed again. For a file of more than
     /// [`MAX_FILE`](crate::MAX_FILE) bytes none is allocated.

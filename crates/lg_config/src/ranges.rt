@@ -31,7 +31,11 @@ pub(crate) struct Allowed {
 }
 
 /// A number as its file gives it, or else its default.
-fn given_text(alloc: Global, given: Option<i64>, default: u64) -> Result<String, AllocError>
+pub(crate) fn given_text(
+    alloc: Global,
+    given: Option<i64>,
+    default: u64,
+) -> Result<String, AllocError>
     ensures { IfOk result (λ text. string_bytes text ≡ given_text given default) }
 {
     match given {

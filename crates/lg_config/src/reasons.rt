@@ -6,11 +6,12 @@ ghost use Rattle.std.specs.Prelude.{◌≡◌, ◌≤◌, ℕ, IfOk, length, str
 ghost use Rattle.toml.specs.Errors.{IsWithin, span_start};
 ghost use Rattle.toml.specs.View.{table_view};
 ghost use Rattle.lg_config.specs.Meaning.Reasons.{config_reason, key_of_fault, line_at, line_reason, reason_of};
-ghost use Rattle.lg_config.specs.Meaning.Reasons.{IsReason, IsTomlReason};
+ghost use Rattle.lg_config.specs.Meaning.Reasons.{unnumbered_reason, IsReason, IsTomlReason};
 
 use crate::document::{Unread, table_in};
 use crate::fault::FileFault;
 use crate::form_reasons::{key_file_reason, seeds_reason, value_reason};
+use crate::group_reasons::group_reason;
 use crate::key_reasons::key_reason;
 use crate::lookup::seeds_at;
 use crate::node_keys::NodeKey;
@@ -21,7 +22,7 @@ use std::alloc::{AllocError, Global};
 use toml::Table;
 use toml::de::Error;
 
-/// The key of the member's number that has a fault. None for the fault of the seeds.
+/// The key of the member's number that has a fault. None for the faults of the seeds and of the group.
 fn key_of_fault(fault: ConfigFault) -> Option<Key>
     ensures { result ≡ key_of_fault fault }
 {
@@ -30,13 +31,28 @@ fn key_of_fault(fault: ConfigFault) -> Option<Key>
         .find(|key| key.row().fault.number() == fault.number())
 }
 
-/// The reason of a fault that the check of a configuration finds.
-fn config_reason(alloc: Global, key: Option<Key>, table: &Table) -> Result<String, AllocError>
-    ensures { IfOk result (λ text. string_bytes text ≡ config_reason key (table_view table.now)) }
+/// The reason of a fault of no number: of the group, or else of the seeds.
+fn unnumbered_reason(alloc: Global, fault: ConfigFault, table: &Table) -> Result<String, AllocError>
+    ensures { IfOk result (λ text. string_bytes text ≡ unnumbered_reason fault (table_view table.now)) }
+{
+    match fault {
+        ConfigFault::Group => group_reason(alloc, table),
+        _ => seeds_reason(alloc, seeds_at(table)),
+    }
+}
+
+/// The reason of a fault that the check of a configuration finds, given the key of the member's number that has it.
+fn config_reason(
+    alloc: Global,
+    key: Option<Key>,
+    fault: ConfigFault,
+    table: &Table,
+) -> Result<String, AllocError>
+    ensures { IfOk result (λ text. string_bytes text ≡ config_reason key fault (table_view table.now)) }
 {
     match key {
         Some(key) => member_reason(alloc, key, table),
-        None => seeds_reason(alloc, seeds_at(table)),
+        None => unnumbered_reason(alloc, fault, table),
     }
 }
 
@@ -45,7 +61,7 @@ fn reason_of(alloc: Global, fault: FileFault, table: &Table) -> Result<String, A
     ensures { IfOk result (λ text. string_bytes text ≡ reason_of fault (table_view table.now)) }
 {
     match fault {
-        FileFault::Config(broken) => config_reason(alloc, key_of_fault(broken), table),
+        FileFault::Config(broken) => config_reason(alloc, key_of_fault(broken), broken, table),
         FileFault::Syntax => String::from_str(alloc, "the file is TOML\n"),
         FileFault::Key => key_reason(alloc, table),
         FileFault::Value => value_reason(alloc, table),

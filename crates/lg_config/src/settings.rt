@@ -10,14 +10,14 @@ ghost use Rattle.lg_config.specs.Meaning.Settings.{octets_of_member, own_number_
 ghost use Rattle.lg_config.specs.Meaning.Settings.{with_keys, with_numbers};
 ghost use Rattle.lg_config.specs.Support.Reading.{with_first_seeds};
 
-use crate::keys::NAME;
+use crate::keys::{FILE_KEYS, NAME};
 use crate::lookup::{integer_at, number_at, seeds_at, text_at};
 use crate::node::NodeConfig;
 use crate::node_keys::NodeKey;
 use crate::seeds::first_seeds;
 use crate::texts::{name_in, octets_in, port_among};
 use lg_rules::{Addr, Name};
-use lg_timing::{Config, KEYS, Key};
+use lg_timing::{Config, Key};
 use toml::Table;
 
 /// The address of a member, if its file doesn't give one (this project's choice).
@@ -104,7 +104,7 @@ fn with_keys(table: &Table, keys: &[Key], usual: Config) -> Config
 fn with_numbers(table: &Table, usual: Config) -> Config
     ensures { result ≡ with_numbers (table_view table.now) usual }
 {
-    with_keys(table, &KEYS, usual)
+    with_keys(table, &FILE_KEYS, usual)
 }
 
 /// A number of the node's own, or its default.
@@ -114,8 +114,8 @@ fn own_number_at(table: &Table, key: NodeKey) -> u64
     number_at(table, key.name(), key.row().default)
 }
 
-/// All that a table says but of the status server and of the key file, and of its seeds only the first 16. None if a
-/// value is out of its form.
+/// All that a table says but of the status server, of the key file and of the group, and of its seeds only the first
+/// 16. None if a value is out of its form.
 #[tactic(auto, unfolding(crate::specs::Meaning::Settings::settings_of))]
 pub(crate) fn settings_in(table: &Table) -> Option<NodeConfig>
     ensures { result ≡ option_map with_first_seeds (settings_of (table_view table.now)) }

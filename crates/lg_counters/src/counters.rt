@@ -13,15 +13,18 @@ use lg_timing::Moment;
 use std::sync::atomic::AtomicU64;
 use std::sync::atomic::Ordering::Relaxed;
 
-/// How many faults a datagram can have: ten of the bytes of a packet, and two of a datagram that isn't sealed as a
-/// keyed link wants it.
-pub const FAULTS: usize = 12;
+/// For how many faults datagrams are dropped: ten of the bytes of a packet, two of a datagram that isn't sealed as a
+/// keyed link wants it, and one of a packet of another group.
+pub const FAULTS: usize = 13;
 
 /// The index of a datagram that isn't sealed in the version of the keyed link.
 const UNSIGNED: usize = 10;
 
 /// The index of a datagram that isn't sealed with one of the keys.
 const FORGED: usize = 11;
+
+/// The index of a packet of another group.
+const OTHER_GROUP: usize = 12;
 
 /// What a node counts from its start on. Threads share it by reference. No call waits, and none allocates. A count that
 /// has come to 2^64 - 1 goes on from 0.
@@ -36,6 +39,7 @@ pub struct Counters {
     probes_helped: AtomicU64,
     suspicions_raised: AtomicU64,
     suspicions_refuted: AtomicU64,
+    members_forgotten: AtomicU64,
     entries: AtomicU64,
     rotations: AtomicU64,
     refused: AtomicU64,
@@ -66,11 +70,13 @@ impl Counters {
             probes_helped: AtomicU64::new(0),
             suspicions_raised: AtomicU64::new(0),
             suspicions_refuted: AtomicU64::new(0),
+            members_forgotten: AtomicU64::new(0),
             entries: AtomicU64::new(1),
             rotations: AtomicU64::new(0),
             refused: AtomicU64::new(0),
             last_event: AtomicU64::new(opened.milliseconds()),
             dropped: [
+                AtomicU64::new(0),
                 AtomicU64::new(0),
                 AtomicU64::new(0),
                 AtomicU64::new(0),
@@ -116,6 +122,11 @@ impl Counters {
         add(&self.dropped[FORGED], 1);
     }
 
+    /// A packet was heard that isn't of the member's group. It does nothing.
+    pub fn note_other_group(&self) {
+        add(&self.dropped[OTHER_GROUP], 1);
+    }
+
     /// A call was refused, for another reason than the bytes of a datagram.
     pub fn note_refused(&self) {
         add(&self.refused, 1);
@@ -138,6 +149,7 @@ impl Counters {
         add(&self.probes_helped, u64::from(tally.probe_helped));
         add(&self.suspicions_raised, tally.suspicions_raised as u64);
         add(&self.suspicions_refuted, u64::from(tally.refuted));
+        add(&self.members_forgotten, tally.members_forgotten as u64);
         self.last_event.store(now.milliseconds(), Relaxed);
     }
 
@@ -152,6 +164,7 @@ impl Counters {
             probes_helped: self.probes_helped.load(Relaxed),
             suspicions_raised: self.suspicions_raised.load(Relaxed),
             suspicions_refuted: self.suspicions_refuted.load(Relaxed),
+            members_forgotten: self.members_forgotten.load(Relaxed),
             history_entries: self.entries.load(Relaxed),
             history_rotations: self.rotations.load(Relaxed),
             calls_refused: self.refused.load(Relaxed),
@@ -164,7 +177,8 @@ impl Counters {
     }
 
     /// A row for each fault: how many datagrams were dropped for it, each read by itself. The faults of a packet come
-    /// in the order of their numbers, and then those of a datagram that isn't sealed.
+    /// in the order of their numbers, then those of a datagram that isn't sealed, and then that of a packet of another
+    /// group.
     pub fn drops(&self) -> [Drops; FAULTS]
         ensures { AreOfFaults result }
     {
@@ -181,6 +195,7 @@ impl Counters {
             family,
             unsigned,
             forged,
+            other_group,
         ] = &self.dropped;
         [
             drops_of("Short", short),
@@ -195,6 +210,7 @@ impl Counters {
             drops_of("Family", family),
             drops_of("Unsigned", unsigned),
             drops_of("Forged", forged),
+            drops_of("OtherGroup", other_group),
         ]
     }
 }

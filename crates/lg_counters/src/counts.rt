@@ -31,6 +31,8 @@ pub struct Counts {
     pub suspicions_raised: u64,
     /// Suspicions of this member that it refuted.
     pub suspicions_refuted: u64,
+    /// Members that were forgotten, those that became known again too.
+    pub members_forgotten: u64,
     /// Entries that the history took, with those that rotations cut off.
     pub history_entries: u64,
     /// Rotations of the history.

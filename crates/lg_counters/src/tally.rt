@@ -25,6 +25,8 @@ pub struct Tally {
     /// A claim against this member was refuted: it is alive, and its own incarnation rose (SWIM, section 4.2). A member
     /// that leaves refutes nothing.
     pub refuted: bool,
+    /// How many members were forgotten, those that became known again too: at most 12.
+    pub members_forgotten: usize,
 }
 
 /// Whether a packet is a Ping.
@@ -107,6 +109,7 @@ impl Tally {
             probe_helped: pings && reply.fired.is_none(),
             suspicions_raised: suspects(reply.changed.as_slice()),
             refuted: has_alive(name, reply.changed.as_slice()),
+            members_forgotten: reply.forgotten.len(),
         }
     }
 }

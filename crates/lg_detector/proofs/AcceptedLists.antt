@@ -1,5 +1,5 @@
 -- Which lists of events are accepted, by their length, their first event and one event more.
-use Rattle.std.proofs.Common.{◌≡◌, ℕ, ◌+◌, ◌<◌, ◌≤◌, true, false, not, ◌&&◌, List, [], ◌∷◌, ◌++◌, length, refl, sym, ◌∙◌, arith}
+use Rattle.std.proofs.Common.{◌≡◌, ℕ, ◌+◌, ◌<◌, ◌≤◌, Bool, true, false, not, ◌&&◌, List, [], ◌∷◌, ◌++◌, length, refl, sym, ◌∙◌, arith}
 use Rattle.std.specs.Prelude.{nat_le}
 use Rattle.std.specs.List.{list_any}
 use Rattle.std.proofs.lemmas.Bool.Decides.{nat_tests}
@@ -13,16 +13,21 @@ use Rattle.lg_detector.specs.Meaning.Step.{is_open_event, opens_well, is_accepte
 use Rattle.lg_detector.specs.Support.Step.{state_after, accepts_of}
 use Rattle.lg_detector.proofs.Accepting.{accepts-after, events-after}
 
--- The three things that an accepted list with a first event has.
-record IsBegun (x : Event) (f : List Event) : Type 0 where
+-- What an accepted list with a first event has.
+pub record IsBegun (x : Event) (f : List Event) : Type 0 where
   pub opens : opens_well x ≡ true
+  pub shut : list_any is_open_event f ≡ false
   pub few : length f + 1 ≤ MAX_EVENTS
 
-begun : (x : Event) (f : List Event) → is_accepted (x ∷ f) ≡ true → IsBegun x f
+not_any : (b : Bool) → not b ≡ true → b ≡ false
+not_any true e = absurd cc
+not_any false e = refl
+
+pub begun : (x : Event) (f : List Event) → is_accepted (x ∷ f) ≡ true → IsBegun x f
 begun x f accepted =
     let parts = both (opens_well x) (not (list_any is_open_event f) && nat_le (length f + 1) most_events) accepted in
     let rest = both (not (list_any is_open_event f)) (nat_le (length f + 1) most_events) parts.1 in
-    record { opens = parts.0; few = grind (arith, nat_tests, rest.1) }
+    record { opens = parts.0; shut = not_any (list_any is_open_event f) rest.0; few = grind (arith, nat_tests, rest.1) }
 
 pub accepted_few : (f : List Event) → is_accepted f ≡ true → length f ≤ MAX_EVENTS
 accepted_few [] accepted = omega arith

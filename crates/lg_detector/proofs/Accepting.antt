@@ -29,7 +29,7 @@ events_untouched = record {
 
 events-expire : (o : Option Timer) (words : List ℕ) (log : Log) → event_count (expire o words log) ≡ event_count log
 events-expire None words log = refl
-events-expire (Some timer) words log = untouched-fire event_count events_untouched timer words log
+events-expire (Some timer) words log = untouched-fire event_count events_untouched (λ m log. refl) timer words log
 
 one_more : (n m : ℕ) → n ≡ m → n + 1 ≡ suc m
 one_more n m e = omega arith
@@ -37,7 +37,7 @@ one_more n m e = omega arith
 events-log_of : (past : List Event) → event_count (log_of past) ≡ length past
 events-log_of [] = refl
 events-log_of (Open now opening ∷ past) = untouched-open event_count events_untouched now opening (log_of past) ∙ one_more _ _ (events-log_of past)
-events-log_of (Heard now source packet ∷ past) = untouched-hear event_count events_untouched now source packet (log_of past) ∙ one_more _ _ (events-log_of past)
+events-log_of (Heard now source packet ∷ past) = untouched-hear event_count events_untouched (λ m log. refl) now source packet (log_of past) ∙ one_more _ _ (events-log_of past)
 events-log_of (Tick now words ∷ past) = events-expire (due (Came now ∷ log_of past)) words (Came now ∷ log_of past) ∙ one_more _ _ (events-log_of past)
 events-log_of (Ask now name ∷ past) = one_more _ _ (events-log_of past)
 events-log_of (Health now ∷ past) = one_more _ _ (events-log_of past)
@@ -76,7 +76,7 @@ accepts-after (x ∷ xs) e accepted =
     limit well opens n = grind arith
 
 -- An opening that is accepted has a good configuration.
-checked : (r : Result (Unit {0}) ConfigFault) → is_ok r ≡ true → r ≡ Ok tt
+pub checked : (r : Result (Unit {0}) ConfigFault) → is_ok r ≡ true → r ≡ Ok tt
 checked (Ok u) e = refl
 checked (Err f) e = absurd cc
 

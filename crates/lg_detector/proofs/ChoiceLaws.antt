@@ -14,11 +14,11 @@ use Rattle.lg_rules.specs.Meaning.View.{view_of}
 use Rattle.lg_rules.proofs.Cases.{Missing, Holding, held, held_once}
 use Rattle.lg_rules.proofs.KeyOrder.{names_order, key_is}
 use Rattle.lg_rules.proofs.RowLaws.{row_at-put}
-use Rattle.lg_rules.proofs.Views.{rises-table}
+use Rattle.lg_rules.proofs.Tables.{rises-table}
 use Rattle.lg_timing.specs.declared.config.Config.{Config}
 use Rattle.lg_timers.specs.declared.timer.Timer.{Timer}
 use Rattle.lg_timers.specs.declared.timer.TimerId.{TimerId}
-use Rattle.lg_timers.specs.declared.timer.TimerId.TheVariants.{RoundEnd, Suspicion, Direct, RelayNack, RelayEnd, RoundStart, Gossip}
+use Rattle.lg_timers.specs.declared.timer.TimerId.TheVariants.{RoundEnd, Suspicion, Direct, RelayNack, RelayEnd, RoundStart, Forget, Gossip}
 use Rattle.lg_timers.specs.Meaning.Timers.{is_due, least_of}
 use Rattle.lg_timers.proofs.Pending.{any-turned}
 use Rattle.lg_probe.specs.Meaning.Order.{candidate, current_cycle}
@@ -33,13 +33,14 @@ use Rattle.lg_membership.proofs.LiveOthers.{among-live}
 use Rattle.lg_detector.specs.declared.event.Event.{Event}
 use Rattle.lg_detector.specs.declared.event.Event.TheVariants.{Open, Tick, Heard, Ask, Health, Pull, Leave}
 use Rattle.lg_detector.specs.declared.reply.Reply.{Reply}
-use Rattle.lg_detector.specs.Meaning.Log.{Log, Came, Fired, moment, group_log}
+use Rattle.lg_detector.specs.Meaning.Forget.{gone}
+use Rattle.lg_detector.specs.Meaning.Log.{Log, Came, moment, group_log}
 use Rattle.lg_detector.specs.Meaning.Probing.{Probe, is_round_start, has_left, others, cycle_names, cycle_candidates, first_word, chosen, number, probe, probe_by, since_start}
 use Rattle.lg_detector.specs.Meaning.Relaying.{relays, opened_at, relay_has_nacked}
 use Rattle.lg_detector.specs.Meaning.Window.{targets}
-use Rattle.lg_detector.specs.Meaning.Timing.{interval_later, start_timers, probe_timers, start_by, round_start, end_at, direct_at, nack_timer, relay_timer, suspicion_timer, nack_time, relay_time}
-use Rattle.lg_detector.specs.Meaning.Timing.{gossip_at, gossip_timers, round_timers, nack_timers, relay_timers, suspicion_timers, pending, due}
-use Rattle.lg_detector.specs.Meaning.Apply.{apply_all}
+use Rattle.lg_detector.specs.Meaning.Timing.{interval_later, start_timers, probe_timers, start_by, round_start, end_at, direct_at, nack_timer, relay_timer, suspicion_timer, forget_timer, nack_time, relay_time}
+use Rattle.lg_detector.specs.Meaning.Timing.{gossip_at, gossip_timers, round_timers, nack_timers, relay_timers, suspicion_timers, forget_timers, pending, due}
+use Rattle.lg_detector.specs.Meaning.Apply.{apply_all, fire}
 use Rattle.lg_detector.specs.Meaning.Send.{packets}
 use Rattle.lg_detector.specs.Meaning.Tick.{found, ping_to, messages, claims_said, expire, expire_sends}
 use Rattle.lg_detector.specs.Meaning.Step.{step, log_of, reply, reply_after}
@@ -57,7 +58,7 @@ record HasRow (m : List ℕ) (rows : List Claim) : Type 0 where
 -- Another that isn't gone has one in the table,
 row_in_table : (g : GroupLog) (m : List ℕ) → is_among name_cmp m (group.live_others g) ≡ true → HasRow m (group.table g)
 row_in_table g m among =
-    let live = sym (among-live m (group.table g) (rises-table (group.me g) (group.said g))) ∙ among in
+    let live = sym (among-live m (group.table g) (rises-table (group.forgets g) (group.me g) (group.own_facts g))) ∙ among in
     elim (held (found m (group.table g))) [
       | Missing none ↦ (let bad : false ≡ true = rw none at live in absurd (false≢true bad))
       | Holding row is ↦ record { row = row; is = is; named = found_key names_order name_of m (group.table g) row is }
@@ -98,6 +99,7 @@ is_of_round Direct = false
 is_of_round (RelayNack k) = false
 is_of_round (RelayEnd k) = false
 is_of_round RoundStart = true
+is_of_round (Forget m) = false
 is_of_round Gossip = false
 
 abbrev moves_round : Timer → Bool
@@ -127,17 +129,21 @@ none_of_four A B C D a b c d =
     list_any-append moves_round A (B ++ (C ++ D))
     ∙ rw a (list_any-append moves_round B (C ++ D) ∙ rw b (list_any-append moves_round C D ∙ rw c d))
 
+none_of_two : (A B : List Timer) → list_any moves_round A ≡ false → list_any moves_round B ≡ false → list_any moves_round (A ++ B) ≡ false
+none_of_two A B a b = list_any-append moves_round A B ∙ rw a b
+
 none_pending : (log : Log) → is_timed log ≡ false → list_any moves_round (pending log) ≡ false
 none_pending log untimed =
     let later = nack_time (group.config (group_log log)) in
     let end = relay_time (group.config (group_log log)) in
     let ours = round_timers log ++ gossip_timers (gossip_at log) in
-    any-turned moves_round (ours ++ (nack_timers log ++ (relay_timers log ++ suspicion_timers log)))
-    ∙ none_of_four ours (nack_timers log) (relay_timers log) (suspicion_timers log)
+    let last = suspicion_timers log ++ forget_timers log in
+    any-turned moves_round (ours ++ (nack_timers log ++ (relay_timers log ++ last)))
+    ∙ none_of_four ours (nack_timers log) (relay_timers log) last
     (none_in_ours (round_timers log) (gossip_at log) (none_in_round (end_at log) (direct_at log) (probe log) (since_start log) (round_start log) untimed))
     (none_in_map (λ r. nack_timer (opened_at log r.number + later) r.number) (filter (λ r. not (relay_has_nacked log r.number)) (relays log)) (λ r. refl))
     (none_in_map (λ r. relay_timer (opened_at log r.number + end) r.number) (relays log) (λ r. refl))
-    (none_in_map suspicion_timer (suspicions (group_log log)) (λ r. refl))
+    (none_of_two (suspicion_timers log) (forget_timers log) (none_in_map suspicion_timer (suspicions (group_log log)) (λ r. refl)) (none_in_map forget_timer (gone (group_log log)) (λ r. refl)))
 
 first_of : (p q : Timer → Bool) (timers : List Timer) (t : Timer) → list_any p timers ≡ false → least_of (filter q timers) ≡ Some t → p t ≡ false
 first_of p q [] t none first = absurd cc
@@ -171,20 +177,21 @@ untimed-by Direct words log none = refl
 untimed-by (RelayNack k) words log none = refl
 untimed-by (RelayEnd k) words log none = refl
 untimed-by RoundStart words log none = absurd cc
+untimed-by (Forget m) words log none = refl
 untimed-by Gossip words log none = refl
 
 untimed-expire : (o : Option Timer) (words : List ℕ) (log : Log) → is_timed log ≡ false → due log ≡ o → is_timed (expire o words log) ≡ false
 untimed-expire None words log untimed first = untimed
 untimed-expire (Some timer) words log untimed first =
-    untouched-fire is_timed timed_untouched timer words log ∙ untimed-by timer.id words log (none_due log timer untimed first) ∙ untimed
+    untouched-fire is_timed timed_untouched (λ m log. refl) timer words log ∙ untimed-by timer.id words log (none_due log timer untimed first) ∙ untimed
 
 -- What happened before an opening starts no round, and sets no start.
 untimed-before : (past : List Event) → was_opened (log_of past) ≡ false → is_timed (log_of past) ≡ false
 untimed-before [] before = refl
 untimed-before (Open now opening ∷ past) before = absurd (false≢true (sym before ∙ opened-first (Open now opening) (log_of past) refl))
 untimed-before (Heard now source packet ∷ past) before =
-    untouched-hear is_timed timed_untouched now source packet (log_of past)
-    ∙ untimed-before past (sym (ap is_some (untouched-hear configuration configuration_untouched now source packet (log_of past))) ∙ before)
+    untouched-hear is_timed timed_untouched (λ m log. refl) now source packet (log_of past)
+    ∙ untimed-before past (sym (ap is_some (untouched-hear configuration configuration_untouched (λ m log. refl) now source packet (log_of past))) ∙ before)
 untimed-before (Tick now words ∷ past) before =
     let log = Came now ∷ log_of past in
     untimed-expire (due log) words log (untimed-before past (sym (ap is_some (configuration-expire (due log) words log)) ∙ before)) refl
@@ -225,6 +232,7 @@ gained-by (Suspicion m) words log sent opened = nothing_gained (all_targets log)
 gained-by Direct words log sent opened = nothing_gained (all_targets log)
 gained-by (RelayNack k) words log sent opened = nothing_gained (all_targets log)
 gained-by (RelayEnd k) words log sent opened = nothing_gained (all_targets log)
+gained-by (Forget m) words log sent opened = nothing_gained (all_targets log)
 gained-by Gossip words log sent opened = nothing_gained (all_targets log)
 gained-by RoundStart words log sent opened =
     let rows = group_view (group_log log) in
@@ -236,12 +244,12 @@ gained-expire : (o : Option Timer) (words : List ℕ) (log : Log) → ((timer : 
     → all_targets (expire o words log) ≡ all_targets log ++ option_to_list (choice_by o (first_body (expire_sends o words log)))
 gained-expire None words log opened = nothing_gained (all_targets log)
 gained-expire (Some timer) words log opened =
-    untouched-fire all_targets targets_untouched timer words log
-    ∙ gained-by timer.id words log (apply_all Group (claims_said timer.id log) (Fired timer words ∷ log)) (opened timer refl)
+    untouched-fire all_targets targets_untouched (λ m log. refl) timer words log
+    ∙ gained-by timer.id words log (apply_all Group (claims_said timer.id log) (fire timer words log)) (opened timer refl)
 
 gained-step : (past : List Event) (e : Event) → all_targets (step e (log_of past)) ≡ all_targets (log_of past) ++ option_to_list (choice_of_reply (reply e (log_of past)))
 gained-step past (Open now opening) = untouched-open all_targets targets_untouched now opening (log_of past) ∙ nothing_gained (all_targets (log_of past))
-gained-step past (Heard now source packet) = untouched-hear all_targets targets_untouched now source packet (log_of past) ∙ nothing_gained (all_targets (log_of past))
+gained-step past (Heard now source packet) = untouched-hear all_targets targets_untouched (λ m log. refl) now source packet (log_of past) ∙ nothing_gained (all_targets (log_of past))
 gained-step past (Tick now words) =
     let log = Came now ∷ log_of past in
     gained-expire (due log) words log (λ timer first starts. starts_opened past now timer first starts)

@@ -5,7 +5,7 @@ use Rattle.std.specs.Prelude.{is_some}
 use Rattle.std.proofs.lemmas.List.{reverse-append}
 use Rattle.lg_timers.specs.declared.timer.Timer.{Timer}
 use Rattle.lg_timers.specs.declared.timer.TimerId.{TimerId}
-use Rattle.lg_timers.specs.declared.timer.TimerId.TheVariants.{RoundEnd, Suspicion, Direct, RelayNack, RelayEnd, RoundStart, Gossip}
+use Rattle.lg_timers.specs.declared.timer.TimerId.TheVariants.{RoundEnd, Suspicion, Direct, RelayNack, RelayEnd, RoundStart, Forget, Gossip}
 use Rattle.lg_timers.specs.Meaning.Timers.{in_turn}
 use Rattle.lg_timers.proofs.TurnLaws.{least-with_timer}
 use Rattle.lg_probe.specs.Meaning.Round.{RoundFact}
@@ -16,7 +16,7 @@ use Rattle.lg_detector.specs.declared.event.Event.TheVariants.{Open, Tick, Heard
 use Rattle.lg_detector.specs.Meaning.Log.{Log, Came, Fired, AckHeard, NackHeard, Relayed, Ended, OfGroup, group_log}
 use Rattle.lg_detector.specs.Meaning.Probing.{Probe, chosen, number, new_probe, probe, probe_by, since_start}
 use Rattle.lg_detector.specs.Meaning.Timing.{gossip_at, gossip_timers, round_timers, start_timer, end_timer, start_timers, direct_timers, probe_timers, start_unless, start_after_leave, start_by, round_start, end_at, direct_at, interval_later}
-use Rattle.lg_detector.specs.Meaning.Timing.{nack_timers, relay_timers, suspicion_timers, deadline_in, due}
+use Rattle.lg_detector.specs.Meaning.Timing.{nack_timers, relay_timers, suspicion_timers, forget_timers, deadline_in, due}
 use Rattle.lg_detector.specs.Meaning.Tick.{expire}
 use Rattle.lg_detector.specs.Meaning.Step.{step, log_of, is_open_event, begins_open, deadline_after}
 use Rattle.lg_detector.proofs.Untouched.{IsUntouched, untouched-open, untouched-hear, untouched-fire}
@@ -39,7 +39,7 @@ configuration_untouched = record {
 
 pub configuration-expire : (o : Option Timer) (words : List ℕ) (log : Log) → configuration (expire o words log) ≡ configuration log
 configuration-expire None words log = refl
-configuration-expire (Some timer) words log = untouched-fire configuration configuration_untouched timer words log
+configuration-expire (Some timer) words log = untouched-fire configuration configuration_untouched (λ m log. refl) timer words log
 
 -- After an opening it was, and no event changes that.
 pub opened-first : (e : Event) (log : Log) → is_open_event e ≡ true → was_opened (step e log) ≡ true
@@ -53,7 +53,7 @@ opened-first (Leave now words) log opens = absurd cc
 
 opened-next : (e : Event) (log : Log) → was_opened log ≡ true → was_opened (step e log) ≡ true
 opened-next (Open now opening) log was = opened-first (Open now opening) log refl
-opened-next (Heard now source packet) log was = ap is_some (untouched-hear configuration configuration_untouched now source packet log) ∙ was
+opened-next (Heard now source packet) log was = ap is_some (untouched-hear configuration configuration_untouched (λ m log. refl) now source packet log) ∙ was
 opened-next (Tick now words) log was = ap is_some (configuration-expire (due (Came now ∷ log)) words (Came now ∷ log)) ∙ was
 opened-next (Ask now name) log was = was
 opened-next (Health now) log was = was
@@ -78,6 +78,7 @@ timed-by (Suspicion m) words log timed = timed
 timed-by Direct words log timed = timed
 timed-by (RelayNack k) words log timed = timed
 timed-by (RelayEnd k) words log timed = timed
+timed-by (Forget m) words log timed = timed
 timed-by Gossip words log timed = timed
 timed-by RoundStart words log timed = timed-start (number log) (interval_later log) (chosen words log)
 
@@ -96,6 +97,7 @@ timed (Ended ∷ log) opened = timed log opened
 timed (OfGroup (group.Opened opening) ∷ log) opened = refl
 timed (OfGroup (group.Said now origin c) ∷ log) opened = timed log opened
 timed (OfGroup (group.Sent taken) ∷ log) opened = timed log opened
+timed (OfGroup (group.Forgot m) ∷ log) opened = timed log opened
 timed (OfGroup group.Departed ∷ log) opened = timed-leave (interval_later log) (probe log) (round_start log) ∙ timed log opened
 
 -- So there is a least deadline.
@@ -112,7 +114,7 @@ deadline_is_set x f opens =
     let log : Log = log_of (reverse (x ∷ f)) in
     let back : reverse (x ∷ f) ≡ reverse f ++ x ∷ [] = reverse-append (x ∷ []) f in
     let opened : was_opened log ≡ true = ap (λ (past : List Event). was_opened (log_of past)) back ∙ opened-past (reverse f) x opens in
-    let others = nack_timers log ++ (relay_timers log ++ suspicion_timers log) in
+    let others = nack_timers log ++ (relay_timers log ++ (suspicion_timers log ++ forget_timers log)) in
     let gossip = gossip_timers (gossip_at log) in
     ap (λ ts. is_some (deadline_in (in_turn ts))) (append_assoc (round_timers log) gossip others)
     ∙ some_least (end_at log) (direct_at log) (probe log) (since_start log) (round_start log) (gossip ++ others) (timed log opened)

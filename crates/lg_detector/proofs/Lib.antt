@@ -1,4 +1,8 @@
+pub mod RowFilters
+pub mod ForgetTimers
 pub mod TimerLaws
+pub mod GoneLaws
+pub mod Fading
 pub mod EndedRelays
 pub mod RelayLaws
 pub mod RelayTimes
@@ -7,15 +11,18 @@ pub mod FactLaws
 pub mod ProbeLaws
 pub mod Reaching
 pub mod Applying
+pub mod Forgetting
 pub mod Ticking
 pub mod Sending
 pub mod Telling
 pub mod LeaveTelling
 pub mod StepLaws
+pub mod CycleLaws
 pub mod WindowLaws
 pub mod Untouched
 pub mod Accepting
 pub mod AcceptedLists
 pub mod Deadlines
+pub mod Numbers
 pub mod ChoiceLaws
 pub mod Summaries

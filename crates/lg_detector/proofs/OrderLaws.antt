@@ -4,15 +4,15 @@ use Rattle.std.specs.Option.{option_to_list}
 use Rattle.std.proofs.lemmas.Bool.{cases_Bool}
 use Rattle.lg_rules.specs.declared.claim.Claim.{Claim}
 use Rattle.lg_rules.specs.declared.members.TheConstants.{MAX_OTHERS}
-use Rattle.lg_rules.specs.Meaning.Rows.{name_cmp, is_same, is_among, put_key, in_order}
-use Rattle.lg_rules.specs.Meaning.Table.{roster}
-use Rattle.lg_rules.proofs.KeyOrder.{names_order, cases_key, key_is}
+use Rattle.lg_rules.specs.Meaning.Rows.{name_cmp, is_same, is_among, put_key, without_key, in_order}
+use Rattle.lg_rules.proofs.KeyOrder.{names_order, key_is}
 use Rattle.lg_rules.proofs.Rises.{rises-put, rises-in_order, among-put, among-in_order}
-use Rattle.lg_rules.proofs.Roster.{roster-own, length-roster}
-use Rattle.lg_rules.proofs.Tables.{Taken, Unbeaten, Out, heard_cases}
-use Rattle.lg_probe.specs.Meaning.Order.{OrderValue, choice, current_cycle, known_names, next_cycle, put_choice}
+use Rattle.lg_rules.proofs.Roster.{among-without}
+use Rattle.lg_rules.proofs.Tables.{table-leaves}
+use Rattle.lg_rules.proofs.Tests.{both}
+use Rattle.lg_probe.specs.Meaning.Order.{OrderValue, Forgot, choice, current_cycle, known_names, next_cycle, order_with, put_choice}
 use Rattle.lg_probe.proofs.NameRows.{names_few, among-append}
-use Rattle.lg_probe.proofs.OrderLaws.{choice-in_order, current-in_order, put_choice-in_order, candidate_is, in_current, InEither, First, Second, in_either}
+use Rattle.lg_probe.proofs.OrderLaws.{choice-in_order, current-in_order, put_choice-in_order, without-in_order, candidate_is, in_current, InEither, First, Second, in_either}
 use Rattle.lg_membership.specs.declared.applied.Presence.{Presence}
 use Rattle.lg_membership.specs.declared.applied.Presence.TheVariants.{Stays, Joins, Leaves}
 use Rattle.lg_membership.specs.declared.origin.Origin.TheVariants.{Group}
@@ -20,7 +20,8 @@ use Rattle.lg_membership.specs.Meaning.Applied.{is_live, presence_of}
 use Rattle.lg_membership.specs.Meaning.Log as group
 use Rattle.lg_membership.specs.Support.Changes.{live_after}
 use Rattle.lg_membership.proofs.AppliedLaws.{applied-log, live-applied}
-use Rattle.lg_membership.proofs.LiveOthers.{live_known}
+use Rattle.lg_membership.proofs.KnownLaws.{others-forgot, others-grow, others-left, length-others}
+use Rattle.lg_membership.proofs.LiveOthers.{live_known, live-forgot}
 use Rattle.lg_membership.specs.declared.origin.Origin.{Origin}
 use Rattle.lg_membership.specs.Support.State as known
 use Rattle.lg_membership.specs.Support.State.{group_state_of}
@@ -71,25 +72,33 @@ order-said origin c log =
     ∙ ap (λ names. record { names = names; chosen = in_order name_cmp (cycle_names log) })
     (sym (live-applied (moment log) origin c g applied (applied-log (moment log) origin c g)))
 
--- Who is chosen in a cycle is known, and stays so.
-abbrev roster_in : Log → List (List ℕ)
-roster_in log =
+-- a leave changes none
+pub order-left : (log : Log) → order_of log ≡ order_of (OfGroup group.Departed ∷ log)
+order-left log =
     let g = group_log log in
-    roster (group.me g) (group.said g)
+    λ i. record {
+      names = sym (ap group.live_names (table-leaves (group.forgets g) (group.me g) (group.own_facts g))) i;
+      chosen = in_order name_cmp (cycle_names log);
+    }
+
+-- one is forgotten
+pub order-forgot : (m : List ℕ) (log : Log) → order_with (order_of log) (Forgot m) ≡ order_of (OfGroup (group.Forgot m) ∷ log)
+order-forgot m log = λ i. record { names = sym (live-forgot m (group_log log)) i; chosen = without-in_order m (cycle_names log) i }
+
+-- Who is chosen in a cycle is known, and stays so until it is forgotten.
+abbrev roster_in : Log → List (List ℕ)
+roster_in log = group.known_others (group_log log)
 
 or_right : (a : Bool) {b : Bool} → b ≡ true → (a || b) ≡ true
 or_right true e = refl
 or_right false e = e
 
-roster-grows : (own : List ℕ) (c : Claim) (past : List Claim) (m : List ℕ) → is_among name_cmp m (roster own past) ≡ true → is_among name_cmp m (roster own (c ∷ past)) ≡ true
-roster-grows own c past m among = elim (cases_key names_order c.name own) [
-  | inl same ↦ ap (is_among name_cmp m) (roster-own own c past same) ∙ among
-  | inr other ↦ elim (heard_cases own c past other) [
-    | Taken t ↦ ap (is_among name_cmp m) t.names ∙ among-put names_order m c.name (roster own past) ∙ or_right (is_same name_cmp c.name m) among
-    | Unbeaten k ↦ ap (is_among name_cmp m) k.names ∙ among
-    | Out o ↦ ap (is_among name_cmp m) o.names ∙ among
-  ]
-]
+-- who is among names but one that is taken out, is among more names but that one
+among_less : (n : List ℕ) (xs ys : List (List ℕ)) (k : List ℕ) → (is_among name_cmp k xs ≡ true → is_among name_cmp k ys ≡ true)
+    → is_among name_cmp k (without_key name_cmp n xs) ≡ true → is_among name_cmp k (without_key name_cmp n ys) ≡ true
+among_less n xs ys k h a =
+    let parts = both (not (is_same name_cmp k n)) (is_among name_cmp k xs) (sym (among-without k n xs) ∙ a) in
+    among-without k n ys ∙ rw (parts.0, h parts.1) refl
 
 chosen_known : (log : Log) (w : ℕ) (k : List ℕ) → (is_among name_cmp k (cycle_names log) ≡ true → is_among name_cmp k (roster_in log) ≡ true)
     → (o : Option (List ℕ)) → ((n : List ℕ) → o ≡ Some n → is_among name_cmp n (others log) ≡ true)
@@ -119,9 +128,11 @@ cycle-known (NackHeard j sender ∷ log) k a = cycle-known log k a
 cycle-known (Relayed target asker ∷ log) k a = cycle-known log k a
 cycle-known (Ended ∷ log) k a = cycle-known log k a
 cycle-known (OfGroup (group.Opened opening) ∷ log) k a = absurd cc
-cycle-known (OfGroup (group.Said now origin c) ∷ log) k a = roster-grows (group.me (group_log log)) c (group.said (group_log log)) k (cycle-known log k a)
+cycle-known (OfGroup (group.Said now origin c) ∷ log) k a = others-grow now origin (group_log log) c k (cycle-known log k a)
 cycle-known (OfGroup (group.Sent taken) ∷ log) k a = cycle-known log k a
-cycle-known (OfGroup group.Departed ∷ log) k a = cycle-known log k a
+cycle-known (OfGroup group.Departed ∷ log) k a = ap (is_among name_cmp k) (others-left (group_log log)) ∙ cycle-known log k a
+cycle-known (OfGroup (group.Forgot m) ∷ log) k a =
+    ap (is_among name_cmp k) (others-forgot m (group_log log)) ∙ among_less m (cycle_names log) (roster_in log) k (cycle-known log k) a
 
 -- So there is room for a member that joins.
 joined_live : (before after : Bool) → presence_of before after ≡ Joins → after ≡ true
@@ -132,12 +143,11 @@ joined_live true false e = absurd cc
 
 room : (log : Log) (origin : Origin) (c : Claim) → is_among name_cmp c.name (others (to_log.apply origin c log)) ≡ true → length (put_key name_cmp c.name (known_names (order_of log))) ≤ 255
 room log origin c live =
-    let g = group_log log in
-    let after = roster (group.me g) (c ∷ group.said g) in
+    let after = roster_in (to_log.apply origin c log) in
     let order = order_of log in
     omega (
       arith,
-      length-roster (group.me g) (c ∷ group.said g),
+      length-others (group_log (to_log.apply origin c log)),
       names_few (put_key name_cmp c.name (known_names order)) after (rises-put names_order c.name (known_names order) (rises-in_order names_order (order.chosen ++ order.names)))
           (λ k a. each k (in_either _ _ (sym (among-put names_order k c.name (known_names order)) ∙ a))),
     )
@@ -150,7 +160,7 @@ room log origin c live =
     each k (First s) = live_known (group_log (to_log.apply origin c log)) k (ap (λ j. is_among name_cmp j (others (to_log.apply origin c log))) (sym (key_is names_order c.name k s)) ∙ live)
     each k (Second a) =
         let order = order_of log in
-        roster-grows (group.me (group_log log)) c (group.said (group_log log)) k
+        others-grow (moment log) origin (group_log log) c k
         (known_one k (in_either _ _ (sym (among-append k order.chosen order.names) ∙ sym (among-in_order names_order k (order.chosen ++ order.names)) ∙ a)))
 
 pub room_joined : (s : State) (log : Log) (c : Claim) → s ≡ state_of log → (known.applied s.moment c s.membership).presence ≡ Joins → length (put_key name_cmp c.name (known_names s.order)) ≤ MAX_OTHERS

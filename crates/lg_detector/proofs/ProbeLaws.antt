@@ -8,7 +8,7 @@ use Rattle.lg_timers.specs.declared.timer.Timer.{Timer}
 use Rattle.lg_timers.specs.Meaning.Timers.{without_timer}
 use Rattle.lg_timers.specs.declared.timer.TimerId.{TimerId}
 use Rattle.lg_timers.specs.declared.timer.TimerId.TheVariants.{RoundEnd, Suspicion, Direct}
-use Rattle.lg_timers.specs.declared.timer.TimerId.TheVariants.{RelayNack, RelayEnd, RoundStart, Gossip}
+use Rattle.lg_timers.specs.declared.timer.TimerId.TheVariants.{RelayNack, RelayEnd, RoundStart, Forget, Gossip}
 use Rattle.lg_probe.specs.declared.relays.Asker.{Asker}
 use Rattle.lg_probe.specs.declared.relays.Relay.{Relay}
 use Rattle.lg_probe.specs.Meaning.Order.{OrderValue}
@@ -18,23 +18,27 @@ use Rattle.lg_probe.proofs.RoundLaws.{asked_after, nacked_after}
 use Rattle.lg_membership.specs.Meaning.Gossip.{version_sent}
 use Rattle.lg_membership.specs.Meaning.Log as group
 use Rattle.lg_membership.specs.Meaning.Log.{group_view}
-use Rattle.lg_membership.specs.Meaning.Suspicions.{SuspectedValue, suspicions}
+use Rattle.lg_membership.specs.Meaning.Suspicions.{suspicions}
 use Rattle.lg_membership.specs.Support.State.{group_state_of}
 use Rattle.lg_membership.proofs.FactLaws.{leave-state}
 use Rattle.lg_membership.proofs.SuspicionLaws.{suspicions-left}
+use Rattle.lg_detector.specs.Meaning.Apply as to_log
+use Rattle.lg_detector.specs.Meaning.Forget.{gone}
 use Rattle.lg_detector.specs.Meaning.Log.{Log, Fired, AckHeard, NackHeard, Relayed, Ended, OfGroup, event_count, moment, group_log}
 use Rattle.lg_detector.specs.Meaning.Probing as probing
-use Rattle.lg_detector.specs.Meaning.Probing.{Probe, number, probe, since_start, round, round_at, new_probe, first_word, target, helpers_of, asked_about}
+use Rattle.lg_detector.specs.Meaning.Probing.{Probe, number, next_number, probe, since_start, round, round_at, new_probe, first_word, target, helpers_of, asked_about}
 use Rattle.lg_detector.specs.Meaning.Relaying.{relays, relay_has_nacked, opened_at}
 use Rattle.lg_detector.specs.Meaning.Timing as timing
-use Rattle.lg_detector.specs.Meaning.Timing.{gossip_at, gossip_by, gossip_delay, gossip_timers, has_to_tell, earned, max_in, score, round_start, round_timers, nack_timers, relay_timers, pending, nack_time, relay_time, end_at, direct_at, is_first, mark_of_end, mark_of_ack}
+use Rattle.lg_detector.specs.Meaning.Timing.{gossip_at, gossip_by, gossip_delay, gossip_timers, has_to_tell, earned, max_in, score, round_start, round_timers, nack_timers, relay_timers, pending, nack_time, relay_time, end_at, direct_at, is_first, mark_of_ack}
 use Rattle.lg_detector.specs.Support.State as state
 use Rattle.lg_detector.specs.Support.State.{helpers_state}
 use Rattle.lg_detector.specs.Support.State.{State, state_of, order_of, fire_state, fire_id, start_probe, marked_end}
 use Rattle.lg_detector.specs.Support.State.{marked_ack, hear_ack, hear_nack, open_relay}
-use Rattle.lg_detector.proofs.OrderLaws.{order-chose, chosen-is}
-use Rattle.lg_detector.proofs.RelayLaws.{numbered, nacked-timers, closed-timers, ended-timers, opened-timers, nacks-opened, ends-opened, relays-opened, relays-acked, relays-closed}
-use Rattle.lg_detector.proofs.TimerLaws.{kept_or, gossip-set, gossip-fired, round_parts, turned, nacks, ends, runs, AreRound, are_round, start-set, probe-set, without-direct, first-direct, asked-timers, acked-timers}
+use Rattle.lg_detector.proofs.FactLaws.{forget-state}
+use Rattle.lg_detector.proofs.GoneLaws.{gone-left}
+use Rattle.lg_detector.proofs.OrderLaws.{order-chose, order-left, chosen-is}
+use Rattle.lg_detector.proofs.RelayLaws.{relays_apart, nacked-timers, closed-timers, ended-timers, opened-timers, nacks-opened, ends-opened, relays-opened, relays-acked, relays-closed}
+use Rattle.lg_detector.proofs.TimerLaws.{kept_or, gossip-set, gossip-fired, round_parts, Waiting, turned, nacks, ends, runs, AreRound, are_round, start-set, probe-set, without-direct, first-direct, asked-timers, acked-timers}
 
 -- what gives the deadlines of the relays of a log, and which of them sent no Nack
 abbrev nack_at : Log → ℕ → ℕ
@@ -46,8 +50,8 @@ relay_at log k = opened_at log k + relay_time (group.config (group_log log))
 abbrev is_silent : Log → Relay → Bool
 is_silent log r = not (relay_has_nacked log r.number)
 
-abbrev rows : Log → List SuspectedValue
-rows log = suspicions (group_log log)
+abbrev rows : Log → Waiting
+rows log = record { rows = suspicions (group_log log); gone = gone (group_log log) }
 
 -- the timers of the round, with that of the next gossip
 abbrev pub ours : Log → List Timer
@@ -74,7 +78,7 @@ after_start log o order =
       score = score log;
       timers = turned ((timing.probe_timers later (timing.timeout_later log) (new_probe (number log) o) [] ++ timing.start_timers (timing.start_unless later o)) ++ rest log) (nack_timers log) (relay_timers log) (runs (rows log));
       order = order;
-      number = cond (is_some o) (number log + 1) (number log);
+      number = cond (is_some o) (next_number (number log)) (number log);
       round = round_at [] (new_probe (number log) o);
       gossip = gossip_at log;
       relays = relays log;
@@ -100,7 +104,7 @@ start-by log (Some m) order = λ i. record {
   score = score log;
   timers = probe-set (nack_at log) (relay_at log) (filter (is_silent log) (relays log)) (relays log) (rows log) (timing.interval_later log) (timing.timeout_later log) (rest log) (ours log) (are log) i;
   order = order;
-  number = number log + 1;
+  number = next_number (number log);
   round = Some (round_of (number log) m []);
   gossip = gossip_at log;
   relays = relays log;
@@ -273,7 +277,7 @@ ended-state log =
     }
 
 -- this member leaves: the probe that runs is dropped
-dropped : (nack_at end_at : ℕ → ℕ) (silent relays : List Relay) (rows : List SuspectedValue) (end direct later : ℕ) (p : Option Probe) (past : List RoundFact) (start gossip : Option ℕ)
+dropped : (nack_at end_at : ℕ → ℕ) (silent relays : List Relay) (rows : Waiting) (end direct later : ℕ) (p : Option Probe) (past : List RoundFact) (start gossip : Option ℕ)
     → state.without_probe (is_some (round_at past p)) later
     (turned ((timing.probe_timers end direct p past ++ timing.start_timers start) ++ gossip_timers gossip) (nacks nack_at silent) (ends end_at relays) (runs rows))
     ≡ turned (timing.start_timers (timing.start_after_leave later p start) ++ gossip_timers gossip) (nacks nack_at silent) (ends end_at relays) (runs rows)
@@ -289,14 +293,14 @@ depart-state log =
     let silent = filter (is_silent log) (relays log) in
     let start = timing.start_after_leave (timing.interval_later log) (probe log) (round_start log) in
     let timers = dropped (nack_at log) (relay_at log) silent (relays log) (rows log) (end_at log) (direct_at log) (timing.interval_later log) (probe log) (since_start log) (round_start log) (gossip_at log)
-    ∙ ap (λ (rs : List SuspectedValue). turned (timing.start_timers start ++ rest log) (nack_timers log) (relay_timers log) (runs rs)) (suspicions-left g) in
+    ∙ (λ i. turned (timing.start_timers start ++ rest log) (nack_timers log) (relay_timers log) (runs (record { rows = suspicions-left g i; gone = gone-left g i }))) in
     let member = leave-state g in
     λ i. record {
       events = event_count log;
       moment = moment log;
       score = score log;
       timers = timers i;
-      order = order_of log;
+      order = order-left log i;
       number = number log;
       round = None;
       gossip = gossip_at log;
@@ -304,16 +308,17 @@ depart-state log =
       membership = member i;
     }
 
-fired : (d : ℕ) (id : TimerId) (words : List ℕ) (log : Log) → fire_id id words (state_of log) ≡ state_of (Fired (record { deadline = d; id = id }) words ∷ log)
+fired : (d : ℕ) (id : TimerId) (words : List ℕ) (log : Log) → fire_id id words (state_of log) ≡ state_of (to_log.fire (record { deadline = d; id = id }) words log)
 fired d RoundEnd words log = end-state d words log
 fired d (Suspicion m) words log = refl
 fired d Direct words log = direct-state d words log
 fired d (RelayNack k) words log = nack-state d k words log
 fired d (RelayEnd k) words log = close-state d k words log
 fired d RoundStart words log = start-state d words log
+fired d (Forget m) words log = forget-state m (Fired (record { deadline = d; id = Forget m }) words ∷ log)
 fired d Gossip words log = gossip-state d words log
 
-pub fire-state : (timer : Timer) (words : List ℕ) (log : Log) → fire_state timer words (state_of log) ≡ state_of (Fired timer words ∷ log)
+pub fire-state : (timer : Timer) (words : List ℕ) (log : Log) → fire_state timer words (state_of log) ≡ state_of (to_log.fire timer words log)
 unfolding fire_state
 fire-state timer words log = fired timer.deadline timer.id words log
 
@@ -349,7 +354,7 @@ ack-state k sender log =
     (acked-timers (end_at log) (direct_at log) (probe log) (since_start log) k sender (round_start log) (gossip_at log)) in
     let timers = ap (state.without_ended (is_some (ended_asker k sender (relays log))) k) direct
     ∙ ended-timers (rest log) A (are_round (end_at log) (direct_at log) (probe log) (Acked k sender ∷ since_start log) (round_start log) (gossip_at log)) (nack_at log) (relay_at log) (rows log) k sender (is_silent log) (relays log)
-    (numbered log).apart
+    (relays_apart log)
     ∙ ap (λ rs. turned A (nacks (nack_at log) (filter (is_silent log) rs)) (ends (relay_at log) rs) (runs (rows log))) open_then in
     λ i. record {
       events = event_count log;
@@ -398,7 +403,6 @@ unfolding open_relay
 relayed-state target asker log =
     let open_then = sym (relays-opened target asker log) in
     let timers = opened-timers (rest log) (ours log) (are log) (nack_at log) (relay_at log) (rows log) (number log) (state.nack_later (state_of log)) (state.relay_later (state_of log)) (is_silent log) (relays log)
-    (numbered log).below
     ∙ (λ i. turned (ours log) (nacks-opened target asker log i) (ends-opened target asker log i) (runs (rows log))) in
     λ i. record {
       events = event_count log;
@@ -406,7 +410,7 @@ relayed-state target asker log =
       score = score log;
       timers = timers i;
       order = order_of log;
-      number = number log + 1;
+      number = next_number (number log);
       round = round log;
       gossip = gossip_at log;
       relays = open_then i;

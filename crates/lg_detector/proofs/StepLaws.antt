@@ -1,5 +1,5 @@
 -- The states lead on as the events do, and give the replies to them.
-use Rattle.std.proofs.Common.{◌≡◌, ℕ, Bool, true, false, cond, List, [], ◌∷◌, ◌++◌, reverse, Option, Some, None, IsTrue, refl, sym, ◌∙◌, ap}
+use Rattle.std.proofs.Common.{◌≡◌, ℕ, Bool, true, false, cond, List, [], ◌∷◌, ◌++◌, append-nil, append_assoc, reverse, Option, Some, None, IsTrue, refl, sym, ◌∙◌, ap}
 use Rattle.std.specs.Prelude.{option_map}
 use Rattle.std.specs.List.{filter_map}
 use Rattle.std.proofs.lemmas.List.{reverse-append}
@@ -14,24 +14,28 @@ use Rattle.lg_timing.specs.declared.config.Config.{Config}
 use Rattle.lg_timers.specs.declared.timer.Timer.{Timer}
 use Rattle.lg_timers.specs.declared.timer.TimerId.{TimerId}
 use Rattle.lg_timers.specs.declared.timer.TimerId.TheVariants.{RoundEnd, Suspicion, Direct}
-use Rattle.lg_timers.specs.declared.timer.TimerId.TheVariants.{RelayNack, RelayEnd, RoundStart}
+use Rattle.lg_timers.specs.declared.timer.TimerId.TheVariants.{RelayNack, RelayEnd, RoundStart, Forget}
+use Rattle.lg_timers.specs.Meaning.Timers.{first_forget}
 use Rattle.lg_timers.specs.declared.timer.TimerId.TheVariants as ids
 use Rattle.lg_probe.specs.declared.relays.Asker.{Asker}
 use Rattle.lg_membership.specs.declared.origin.Origin.{Origin}
 use Rattle.lg_membership.specs.declared.origin.Origin.TheVariants.{Seed, Group}
 use Rattle.lg_membership.specs.Meaning.Gossip.{news, version_sent}
 use Rattle.lg_membership.specs.Meaning.Log as group
-use Rattle.lg_membership.specs.Meaning.Log.{group_view}
+use Rattle.lg_membership.specs.Meaning.Log.{group_view, needs_room}
 use Rattle.lg_membership.specs.Meaning.Pages.{page_of}
 use Rattle.lg_membership.proofs.FactLaws.{own_name}
+use Rattle.lg_membership.proofs.Forgetting.{needs_room-log}
 use Rattle.lg_detector.specs.declared.event.Event.{Event}
 use Rattle.lg_detector.specs.declared.event.Event.TheVariants.{Open, Tick, Heard, Ask, Health, Pull as Pulls, Leave}
 use Rattle.lg_detector.specs.declared.message.Message.{Message}
 use Rattle.lg_detector.specs.declared.reply.Outgoing.{Outgoing}
+use Rattle.lg_detector.specs.Meaning.Forget.{forgotten}
+use Rattle.lg_detector.specs.Meaning.Groups.{own_group}
 use Rattle.lg_detector.specs.Meaning.Log.{Log, Came, Fired, Relayed, OfGroup, group_log}
 use Rattle.lg_detector.specs.Meaning.Probing.{has_left, number, round, told_by}
 use Rattle.lg_detector.specs.Meaning.Relaying.{relays}
-use Rattle.lg_detector.specs.Meaning.Timing.{due, or_zero}
+use Rattle.lg_detector.specs.Meaning.Timing.{due, pending, or_zero}
 use Rattle.lg_detector.specs.Meaning.Apply as to_log
 use Rattle.lg_detector.specs.Meaning.Open as open_log
 use Rattle.lg_detector.specs.Meaning.Hear as hear_log
@@ -40,7 +44,8 @@ use Rattle.lg_detector.specs.Meaning.Send as send_log
 use Rattle.lg_detector.specs.Meaning.Joining as join_log
 use Rattle.lg_detector.specs.Meaning.Leave as leave_log
 use Rattle.lg_detector.specs.Meaning.Step as step_log
-use Rattle.lg_detector.specs.Support.State.{State, state_of, begin, end_event, apply_all_state, open_relay}
+use Rattle.lg_detector.specs.Support.State.{State, state_of, begin, end_event, apply_state, apply_all_state, open_relay}
+use Rattle.lg_detector.specs.Support.State.{forget_id, forget_first_state, make_room_state, as_merged_state, hear_one_state, hear_each_state, forgotten_id, forgotten_first, forgotten_for, forgotten_each}
 use Rattle.lg_detector.specs.Support.Send.{claims_of_state, outgoing_state, packets_state, send_all_state, send_state}
 use Rattle.lg_detector.specs.Support.Open.{open_with_state}
 use Rattle.lg_detector.specs.Support.Hear.{answer_state, body_meant_state, hear_claims_state, hear_state, note_state, respond_state}
@@ -51,9 +56,10 @@ use Rattle.lg_detector.specs.Support.Tick as tick_state
 use Rattle.lg_detector.specs.Support.Tick.{claims_said_state, due_state, expire_sends_state, expire_state}
 use Rattle.lg_detector.specs.Support.Tick.{messages_state, tick_state, while_news_state}
 use Rattle.lg_detector.specs.Support.Step.{state_after, accepts_of, view_state, advance, happen_state, step_state, deadline_state}
-use Rattle.lg_detector.specs.Support.Step.{reply_state}
-use Rattle.lg_detector.proofs.FactLaws.{come-state, begin-state, apply-state, send-state}
+use Rattle.lg_detector.specs.Support.Step.{reply_state, forgotten_by_state}
+use Rattle.lg_detector.proofs.FactLaws.{come-state, begin-state, apply-state, forget-state, send-state}
 use Rattle.lg_detector.proofs.OrderLaws.{chosen-is}
+use Rattle.lg_detector.proofs.Untouched.{IsUntouched, untouched-apply_all, untouched-respond, untouched-expire}
 use Rattle.lg_detector.proofs.ProbeLaws.{depart-state, fire-state, ack-state, ended-state, nack-heard, relayed-state, helpers-is}
 
 pub apply_all-state : (origin : Origin) (cs : List Claim) (log : Log) → apply_all_state origin cs (state_of log) ≡ state_of (to_log.apply_all origin cs log)
@@ -67,10 +73,48 @@ open-state now opening log =
     ∙ ap (apply_all_state Seed claims) (begin-state opening (Came now ∷ log))
     ∙ apply_all-state Seed claims (OfGroup (group.Opened opening) ∷ Came now ∷ log)
 
+-- claims are heard, and members are forgotten where one of them lacks room
+forget_id-state : (id : TimerId) (log : Log) → forget_id id (state_of log) ≡ state_of (to_log.forget_by id log)
+forget_id-state RoundEnd log = refl
+forget_id-state (Suspicion m) log = refl
+forget_id-state Direct log = refl
+forget_id-state (RelayNack k) log = refl
+forget_id-state (RelayEnd k) log = refl
+forget_id-state RoundStart log = refl
+forget_id-state (Forget m) log = forget-state m log
+forget_id-state ids.Gossip log = refl
+
+room-by : (b : Bool) (o : Option Timer) (log : Log) → cond b (forget_first_state o (state_of log)) (state_of log) ≡ state_of (cond b (to_log.forget_first o log) log)
+room-by true None log = refl
+room-by true (Some timer) log = forget_id-state timer.id log
+room-by false o log = refl
+
+make_room-state : (c : Claim) (log : Log) → make_room_state c (state_of log) ≡ state_of (to_log.make_room c log)
+unfolding make_room_state
+make_room-state c log =
+    let first = first_forget (pending log) in
+    ap (λ b. cond b (forget_first_state first (state_of log)) (state_of log)) (needs_room-log c (group_log log))
+    ∙ room-by (needs_room (group_log log) c) first log
+
+as_merged-log : (teller : Option (List ℕ)) (c : Claim) (log : Log) → as_merged_state teller c (state_of log) ≡ to_log.as_merged teller c log
+as_merged-log teller c log = ap (λ me. to_log.merged me (group_view (group_log log)) teller c) (own_name (group_log log))
+
+hear_one-state : (teller : Option (List ℕ)) (c : Claim) (log : Log) → hear_one_state teller c (state_of log) ≡ state_of (to_log.hear_one teller c log)
+hear_one-state teller c log =
+    let roomy = to_log.make_room c log in
+    ap (λ s. apply_state Group (as_merged_state teller c s) s) (make_room-state c log)
+    ∙ ap (λ said. apply_state Group said (state_of roomy)) (as_merged-log teller c roomy)
+    ∙ apply-state Group (to_log.as_merged teller c roomy) roomy
+
+hear_each-state : (teller : Option (List ℕ)) (cs : List Claim) (log : Log) → hear_each_state teller cs (state_of log) ≡ state_of (to_log.hear_each teller cs log)
+hear_each-state teller [] log = refl
+hear_each-state teller (c ∷ cs) log = ap (hear_each_state teller cs) (hear_one-state teller c log) ∙ hear_each-state teller cs (to_log.hear_one teller c log)
+
 claims-state : (now : ℕ) (packet : Packet) (log : Log) → hear_claims_state now packet (state_of log) ≡ state_of (hear_log.hear_claims now packet log)
 claims-state now packet log =
-    let said = hear_log.claims_heard packet in
-    ap (apply_all_state Group said) (come-state now log) ∙ apply_all-state Group said (Came now ∷ log)
+    let said = hear_log.claims_heard (hear_log.my_group log) packet in
+    let teller = hear_log.table_teller (version_sent (group.config (group_log log))) packet in
+    ap (hear_each_state teller said) (come-state now log) ∙ hear_each-state teller said (Came now ∷ log)
 
 -- the packets that are sent
 send-body : (body : Body) (log : Log) → send_state body (state_of log) ≡ state_of (send_log.send body log)
@@ -100,7 +144,7 @@ outgoing-log m log = λ i. record {
   to = m.to;
   packet = record {
     version = version_sent (group.config (group_log log));
-    group = None;
+    group = own_group (group.config (group_log log));
     sender = own_name (group_log log) i;
     body = send_log.body_told (version_sent (group.config (group_log log))) m.body;
     claims = record { items = claims_of-log m.body log i };
@@ -141,7 +185,7 @@ respond-state source sender body log =
 
 -- what the body of a packet means to this member
 body-is : (packet : Packet) (log : Log) → body_meant_state packet (state_of log) ≡ hear_log.body_meant packet log
-body-is packet log = ap (λ me. hear_log.body_heard me packet) (own_name (group_log log))
+body-is packet log = ap (λ me. hear_log.body_heard (hear_log.my_group log) me packet) (own_name (group_log log))
 
 answer-state : (source : Addr) (packet : Packet) (log : Log)
     → answer_state source packet (state_of log) ≡ state_of (hear_log.respond source packet.sender (hear_log.body_meant packet log) log)
@@ -164,8 +208,9 @@ response_sent-log source sender body log =
 own_packet-log : (to : Addr) (body : Body) (log : Log) → own_packet_state to body (state_of log) ≡ join_log.own_packet to body log
 own_packet-log to body log =
     let version = version_sent (group.config (group_log log)) in
+    let mine = own_group (group.config (group_log log)) in
     let own = join_log.own_told version (own_record (group.own (group_log log))) in
-    ap (λ me. join_log.with_claims to version me body own) (own_name (group_log log))
+    ap (λ me. join_log.with_claims to version mine me body own) (own_name (group_log log))
 
 pull_after-log : (to : Addr) (after : Option (List ℕ)) (log : Log) → pull_after_state to after (state_of log) ≡ join_log.pull_after to after log
 pull_after-log to after log = own_packet-log to (Pull after) log
@@ -173,7 +218,8 @@ pull_after-log to after log = own_packet-log to (Pull after) log
 page_behind-log : (to : Addr) (after : Option (List ℕ)) (log : Log) → page_behind_state to after (state_of log) ≡ join_log.page_behind to after log
 page_behind-log to after log =
     let version = version_sent (group.config (group_log log)) in
-    ap (λ me. join_log.with_claims to version me Page (page_of version after (group_view (group_log log)))) (own_name (group_log log))
+    let mine = own_group (group.config (group_log log)) in
+    ap (λ me. join_log.with_claims to version mine me Page (page_of version after (group_view (group_log log)))) (own_name (group_log log))
 
 next_pull-log : (to : Addr) (last : Option Claim) (log : Log) → next_pull_state to last (state_of log) ≡ join_log.next_pull to last log
 next_pull-log to None log = refl
@@ -208,26 +254,27 @@ messages-log RoundEnd words log = refl
 messages-log (Suspicion m) words log = refl
 messages-log Direct words log = ap (tick_log.requests (round log) (group_view (group_log log))) (helpers-is words log)
 messages-log (RelayNack k) words log = refl
+messages-log (Forget m) words log = refl
 messages-log ids.Gossip words log = while_news-log (tick_log.gossips_for (group_view (group_log log)) (told_by words log)) log
 messages-log (RelayEnd k) words log = refl
 messages-log RoundStart words log = ap (tick_log.ping_to (number log) (group_view (group_log log))) (chosen-is words log)
 
 fired-log : (timer : Timer) (words : List ℕ) (log : Log)
-    → tick_state.said_by (Some timer) words (state_of log) ≡ state_of (to_log.apply_all Group (tick_log.claims_said timer.id log) (Fired timer words ∷ log))
+    → tick_state.said_by (Some timer) words (state_of log) ≡ state_of (to_log.apply_all Group (tick_log.claims_said timer.id log) (to_log.fire timer words log))
 fired-log timer words log =
-    (λ i. apply_all_state Group (said-log timer.id log i) (fire-state timer words log i)) ∙ apply_all-state Group (tick_log.claims_said timer.id log) (Fired timer words ∷ log)
+    (λ i. apply_all_state Group (said-log timer.id log i) (fire-state timer words log i)) ∙ apply_all-state Group (tick_log.claims_said timer.id log) (to_log.fire timer words log)
 
 expire-state : (o : Option Timer) (words : List ℕ) (log : Log) → expire_state o words (state_of log) ≡ state_of (tick_log.expire o words log)
 expire-state None words log = refl
 expire-state (Some timer) words log =
     (λ i. send_all_state (messages-log timer.id words log i) (fired-log timer words log i))
-    ∙ send_all-state (tick_log.messages timer.id words log) (to_log.apply_all Group (tick_log.claims_said timer.id log) (Fired timer words ∷ log))
+    ∙ send_all-state (tick_log.messages timer.id words log) (to_log.apply_all Group (tick_log.claims_said timer.id log) (to_log.fire timer words log))
 
 expire_sends-log : (o : Option Timer) (words : List ℕ) (log : Log) → expire_sends_state o words (state_of log) ≡ tick_log.expire_sends o words log
 expire_sends-log None words log = refl
 expire_sends-log (Some timer) words log =
     (λ i. packets_state (messages-log timer.id words log i) (fired-log timer words log i))
-    ∙ packets-log (tick_log.messages timer.id words log) (to_log.apply_all Group (tick_log.claims_said timer.id log) (Fired timer words ∷ log))
+    ∙ packets-log (tick_log.messages timer.id words log) (to_log.apply_all Group (tick_log.claims_said timer.id log) (to_log.fire timer words log))
 
 tick-state : (now : ℕ) (words : List ℕ) (log : Log) → tick_state now words (state_of log) ≡ state_of (tick_log.tick now words log)
 tick-state now words log = expire-state (due (Came now ∷ log)) words (Came now ∷ log)
@@ -260,12 +307,71 @@ happen-state log (Leave now words) = leave-state now log
 pub advance-state : (log : Log) (e : Event) → advance (state_of log) e ≡ state_of (step_log.step e log)
 advance-state log e = ap end_event (happen-state log e) ∙ ended-state (step_log.happen e log)
 
+-- the names that an event forgets
+forgotten_untouched : IsUntouched forgotten
+forgotten_untouched = record {
+  said = λ now origin c log. refl;
+  sent = λ taken log. refl;
+  acked = λ k sender log. refl;
+  nacked = λ k sender log. refl;
+  relayed = λ target asker log. refl;
+}
+
+forgotten-id : (id : TimerId) (log : Log) → forgotten (to_log.forget_by id log) ≡ forgotten log ++ forgotten_id id
+forgotten-id RoundEnd log = sym (append-nil (forgotten log))
+forgotten-id (Suspicion m) log = sym (append-nil (forgotten log))
+forgotten-id Direct log = sym (append-nil (forgotten log))
+forgotten-id (RelayNack k) log = sym (append-nil (forgotten log))
+forgotten-id (RelayEnd k) log = sym (append-nil (forgotten log))
+forgotten-id RoundStart log = sym (append-nil (forgotten log))
+forgotten-id (Forget m) log = refl
+forgotten-id ids.Gossip log = sym (append-nil (forgotten log))
+
+forgotten-room : (b : Bool) (o : Option Timer) (log : Log) → forgotten (cond b (to_log.forget_first o log) log) ≡ forgotten log ++ cond b (forgotten_first o) []
+forgotten-room true None log = sym (append-nil (forgotten log))
+forgotten-room true (Some timer) log = forgotten-id timer.id log
+forgotten-room false o log = sym (append-nil (forgotten log))
+
+forgotten-for : (c : Claim) (log : Log) → forgotten (to_log.make_room c log) ≡ forgotten log ++ forgotten_for c (state_of log)
+forgotten-for c log =
+    let first = first_forget (pending log) in
+    forgotten-room (needs_room (group_log log) c) first log
+    ∙ ap (λ b. forgotten log ++ cond b (forgotten_first first) []) (sym (needs_room-log c (group_log log)))
+
+forgotten-each : (teller : Option (List ℕ)) (cs : List Claim) (log : Log) → forgotten (to_log.hear_each teller cs log) ≡ forgotten log ++ forgotten_each teller cs (state_of log)
+forgotten-each teller [] log = sym (append-nil (forgotten log))
+forgotten-each teller (c ∷ cs) log =
+    let next = to_log.hear_one teller c log in
+    forgotten-each teller cs next
+    ∙ ap (λ ns. ns ++ forgotten_each teller cs (state_of next)) (forgotten-for c log)
+    ∙ append_assoc (forgotten log) (forgotten_for c (state_of log)) (forgotten_each teller cs (state_of next))
+    ∙ ap (λ s. forgotten log ++ (forgotten_for c (state_of log) ++ forgotten_each teller cs s)) (sym (hear_one-state teller c log))
+
+forgotten-expire : (o : Option Timer) (words : List ℕ) (now : ℕ) (log : Log) → forgotten_first o ≡ forgotten (tick_log.expire o words (Came now ∷ log))
+forgotten-expire None words now log = refl
+forgotten-expire (Some timer) words now log =
+    sym (untouched-expire forgotten forgotten_untouched timer words (Came now ∷ log) ∙ forgotten-id timer.id (Fired timer words ∷ Came now ∷ log))
+
+forgotten-log : (log : Log) (e : Event) → forgotten_by_state (state_of log) e ≡ step_log.forgotten_by e log
+forgotten-log log (Open now opening) =
+    sym (untouched-apply_all forgotten forgotten_untouched Seed (open_log.seed_claims opening) (OfGroup (group.Opened opening) ∷ Came now ∷ log))
+forgotten-log log (Heard now source packet) =
+    let teller = hear_log.table_teller (version_sent (group.config (group_log log))) packet in
+    let said = hear_log.claims_heard (hear_log.my_group log) packet in
+    sym (untouched-respond forgotten forgotten_untouched now source packet log ∙ forgotten-each teller said (Came now ∷ log))
+forgotten-log log (Tick now words) = forgotten-expire (due (Came now ∷ log)) words now log
+forgotten-log log (Ask now name) = refl
+forgotten-log log (Health now) = refl
+forgotten-log log (Pulls now peer) = refl
+forgotten-log log (Leave now words) = refl
+
 pub reply-state : (log : Log) (e : Event) → reply_state (state_of log) e ≡ step_log.reply e log
 unfolding reply_state
 reply-state log (Open now opening) = λ i. record {
   fired = None;
   sends = record { items = [] };
   changed = record { items = [] };
+  forgotten = record { items = forgotten-log log (Open now opening) i };
   answer = None;
   ousted = (advance-state log (Open now opening) i).membership.own.ousted;
   next = or_zero (deadline_state (advance-state log (Open now opening) i));
@@ -278,6 +384,7 @@ reply-state log (Heard now source packet) =
       fired = None;
       sends = record { items = sends-is i };
       changed = record { items = changed (step_log.view log) (view_state (heard-is i)) };
+      forgotten = record { items = forgotten-log log (Heard now source packet) i };
       answer = None;
       ousted = (advance-state log (Heard now source packet) i).membership.own.ousted;
       next = or_zero (deadline_state (advance-state log (Heard now source packet) i));
@@ -286,6 +393,7 @@ reply-state log (Ask now name) = λ i. record {
   fired = None;
   sends = record { items = [] };
   changed = record { items = [] };
+  forgotten = record { items = forgotten-log log (Ask now name) i };
   answer = step_log.answer_by (Ask now name) log;
   ousted = (advance-state log (Ask now name) i).membership.own.ousted;
   next = or_zero (deadline_state (advance-state log (Ask now name) i));
@@ -294,6 +402,7 @@ reply-state log (Health now) = λ i. record {
   fired = None;
   sends = record { items = [] };
   changed = record { items = [] };
+  forgotten = record { items = forgotten-log log (Health now) i };
   answer = step_log.answer_by (Health now) log;
   ousted = (advance-state log (Health now) i).membership.own.ousted;
   next = or_zero (deadline_state (advance-state log (Health now) i));
@@ -302,6 +411,7 @@ reply-state log (Pulls now peer) = λ i. record {
   fired = None;
   sends = record { items = pull_after-log peer None (Came now ∷ log) i ∷ [] };
   changed = record { items = [] };
+  forgotten = record { items = forgotten-log log (Pulls now peer) i };
   answer = None;
   ousted = (advance-state log (Pulls now peer) i).membership.own.ousted;
   next = or_zero (deadline_state (advance-state log (Pulls now peer) i));
@@ -310,6 +420,7 @@ reply-state log (Leave now words) = λ i. record {
   fired = None;
   sends = record { items = leave_sends-log now words log i };
   changed = record { items = changed (step_log.view log) (view_state (leave-state now log i)) };
+  forgotten = record { items = forgotten-log log (Leave now words) i };
   answer = None;
   ousted = (advance-state log (Leave now words) i).membership.own.ousted;
   next = or_zero (deadline_state (advance-state log (Leave now words) i));
@@ -318,6 +429,7 @@ reply-state log (Tick now words) = λ i. record {
   fired = due_state (come-state now log i);
   sends = record { items = expire_sends-log (due (Came now ∷ log)) words (Came now ∷ log) i };
   changed = record { items = changed (step_log.view log) (view_state (tick-state now words log i)) };
+  forgotten = record { items = forgotten-log log (Tick now words) i };
   answer = None;
   ousted = (advance-state log (Tick now words) i).membership.own.ousted;
   next = or_zero (deadline_state (advance-state log (Tick now words) i));

@@ -1,17 +1,20 @@
 -- While the others that aren't gone stay the same, so many rounds in a row choose each of them.
-use Rattle.std.proofs.Common.{◌≡◌, ℕ, ◌≤◌, Bool, true, false, cond, List, [], ◌∷◌, ◌++◌, length, Option, Some, None, refl, sym, ◌∙◌, ap, append_assoc, length-append, arith}
+use Rattle.std.proofs.Common.{◌≡◌, ℕ, ◌≤◌, Bool, true, false, not, ◌&&◌, cond, List, [], ◌∷◌, ◌++◌, length, Option, Some, None, refl, sym, ◌∙◌, ap, append_assoc, length-append, arith}
 use Rattle.std.specs.Option.{option_to_list}
 use Rattle.std.proofs.lemmas.Bool.{false≢true}
 use Rattle.std.proofs.lemmas.List.{append-nil}
-use Rattle.lg_rules.specs.Meaning.Rows.{name_cmp, is_among}
+use Rattle.lg_rules.specs.Meaning.Rows.{name_cmp, is_same, is_among, without_key}
+use Rattle.lg_rules.proofs.Roster.{among-without}
+use Rattle.lg_rules.proofs.Tests.{both}
 use Rattle.lg_timers.specs.declared.timer.Timer.{Timer}
 use Rattle.lg_probe.specs.Meaning.Order.{choice, next_cycle, window}
 use Rattle.lg_probe.proofs.WindowLaws.{choices, in_window}
 use Rattle.lg_membership.specs.Meaning.Log as group
-use Rattle.lg_membership.proofs.LiveOthers.{live-opened}
+use Rattle.lg_membership.proofs.LiveOthers.{live-opened, live-forgot}
 use Rattle.lg_detector.specs.Meaning.Log.{Log, Came, Fired, AckHeard, NackHeard, Relayed, Ended, OfGroup, group_log}
 use Rattle.lg_detector.specs.Meaning.Probing.{is_round_start, has_left, others, cycle_names, first_word, chosen}
 use Rattle.lg_detector.specs.Meaning.Window.{targets, AreOthers}
+use Rattle.lg_detector.proofs.CycleLaws.{AreAlike, choice-alike, next-alike}
 
 -- the names chosen in the cycle, after choices by words
 cycles : List (List ℕ) → List (List ℕ) → List ℕ → List (List ℕ)
@@ -46,11 +49,12 @@ choices-few names cycle (w ∷ words) =
       choices-few names (next_cycle names cycle w) words,
     )
 
--- The words by which a stretch chose: the targets are the choices by these, and so is the cycle after it.
+-- The words by which a stretch chose: the targets are the choices by these, and the cycle after it has the same of the
+-- names. It may lack others that were forgotten.
 record Chosen (names : List (List ℕ)) (stretch log : Log) : Type 0 where
   pub words : List ℕ
   pub are : targets stretch log ≡ choices names (cycle_names log) words
-  pub cycle : cycle_names (stretch ++ log) ≡ cycles names (cycle_names log) words
+  pub cycle : AreAlike names (cycle_names (stretch ++ log)) (cycles names (cycle_names log) words)
 
 others_then : (names : List (List ℕ)) (stretch log : Log) → AreOthers names stretch log → others (stretch ++ log) ≡ names
 others_then names [] log same = same
@@ -60,30 +64,55 @@ after_choice : (names : List (List ℕ)) (timer : Timer) (words : List ℕ) (str
 unfolding cycles
 after_choice names timer words stretch log same before = step (is_round_start timer.id) refl (has_left (stretch ++ log)) refl
   where
+    unchosen : (is_round_start timer.id && not (has_left (stretch ++ log))) ≡ false → AreAlike names (cycle_names (Fired timer words ∷ stretch ++ log)) (cycles names (cycle_names log) before.words)
+    unchosen stays n a =
+        ap (λ b. is_among name_cmp n (cond b (next_cycle (others (stretch ++ log)) (cycle_names (stretch ++ log)) (first_word words)) (cycle_names (stretch ++ log)))) stays
+        ∙ before.cycle n a
+
     step : (b : Bool) → is_round_start timer.id ≡ b → (left : Bool) → has_left (stretch ++ log) ≡ left → Chosen names (Fired timer words ∷ stretch) log
     step true starts true left = record {
       words = before.words;
       are = rw (starts, left) (append-nil (targets stretch log) ∙ before.are);
-      cycle = rw (starts, left) before.cycle;
+      cycle = unchosen (λ i. starts i && not (left i));
     }
     step true starts false stays =
         let word = first_word words in
         let cycle = cycle_names log in
         let choice_is : choice (others (stretch ++ log)) (cycle_names (stretch ++ log)) word ≡ choice names (cycles names cycle before.words) word =
-        λ i. choice (same i) (before.cycle i) word in
-        let next_is : next_cycle (others (stretch ++ log)) (cycle_names (stretch ++ log)) word ≡ next_cycle names (cycles names cycle before.words) word =
-        λ i. next_cycle (same i) (before.cycle i) word in
+        ap (λ ns. choice ns (cycle_names (stretch ++ log)) word) same
+        ∙ choice-alike names (cycle_names (stretch ++ log)) (cycles names cycle before.words) before.cycle word in
+        let next = next_cycle (others (stretch ++ log)) (cycle_names (stretch ++ log)) word in
+        let chooses : (is_round_start timer.id && not (has_left (stretch ++ log))) ≡ true = λ i. starts i && not (stays i) in
         record {
           words = before.words ++ word ∷ [];
           are = rw (starts, stays) ((λ i. before.are i ++ option_to_list (choice_is i)) ∙ sym (choices-push names cycle before.words word));
-          cycle = rw (starts, stays) (next_is ∙ sym (cycles-push names cycle before.words word));
+          cycle = λ n a.
+              ap (λ b. is_among name_cmp n (cond b next (cycle_names (stretch ++ log)))) chooses
+              ∙ ap (λ ns. is_among name_cmp n (next_cycle ns (cycle_names (stretch ++ log)) word)) same
+              ∙ next-alike names (cycle_names (stretch ++ log)) (cycles names cycle before.words) before.cycle word n a
+              ∙ sym (ap (is_among name_cmp n) (cycles-push names cycle before.words word));
         }
     step false not_started left is =
-        record { words = before.words; are = rw not_started before.are; cycle = rw not_started before.cycle }
+        record { words = before.words; are = rw not_started before.are; cycle = unchosen (λ i. not_started i && not (has_left (stretch ++ log))) }
+
+-- A name that is forgotten, while the others stay the same, is none of them.
+forgotten_in : (names : List (List ℕ)) (m : List ℕ) (stretch log : Log) → AreOthers names (OfGroup (group.Forgot m) ∷ stretch) log → Chosen names stretch log → Chosen names (OfGroup (group.Forgot m) ∷ stretch) log
+forgotten_in names m stretch log same before =
+    let less : names ≡ without_key name_cmp m names =
+    sym same.0 ∙ live-forgot m (group_log (stretch ++ log)) ∙ ap (without_key name_cmp m) (others_then names stretch log same.1) in
+    record {
+      words = before.words;
+      are = before.are;
+      cycle = λ n a.
+          let parts = both (not (is_same name_cmp n m)) (is_among name_cmp n names) (sym (among-without n m names) ∙ sym (ap (is_among name_cmp n) less) ∙ a) in
+          among-without n m (cycle_names (stretch ++ log))
+          ∙ ap (λ b. b && is_among name_cmp n (cycle_names (stretch ++ log))) parts.0
+          ∙ before.cycle n a;
+    }
 
 chosen_in : (names : List (List ℕ)) (stretch log : Log) (name : List ℕ) → is_among name_cmp name names ≡ true → AreOthers names stretch log → Chosen names stretch log
 unfolding cycles choices
-chosen_in names [] log name named same = record { words = []; are = refl; cycle = refl }
+chosen_in names [] log name named same = record { words = []; are = refl; cycle = λ n a. refl }
 chosen_in names (Came now ∷ stretch) log name named same = let c = chosen_in names stretch log name named same.1 in record { words = c.words; are = c.are; cycle = c.cycle }
 chosen_in names (Fired timer words ∷ stretch) log name named same =
     after_choice names timer words stretch log (others_then names stretch log same.1) (chosen_in names stretch log name named same.1)
@@ -96,6 +125,7 @@ chosen_in names (OfGroup (group.Opened opening) ∷ stretch) log name named same
     absurd (false≢true (sym (ap (is_among name_cmp name) none) ∙ named))
 chosen_in names (OfGroup (group.Said now origin claim) ∷ stretch) log name named same = let c = chosen_in names stretch log name named same.1 in record { words = c.words; are = c.are; cycle = c.cycle }
 chosen_in names (OfGroup (group.Sent claims) ∷ stretch) log name named same = let c = chosen_in names stretch log name named same.1 in record { words = c.words; are = c.are; cycle = c.cycle }
+chosen_in names (OfGroup (group.Forgot m) ∷ stretch) log name named same = forgotten_in names m stretch log same (chosen_in names stretch log name named same.1)
 chosen_in names (OfGroup group.Departed ∷ stretch) log name named same = let c = chosen_in names stretch log name named same.1 in record { words = c.words; are = c.are; cycle = c.cycle }
 
 pub each_target : (log stretch : Log) (name : List ℕ) → AreOthers (others log) stretch log → is_among name_cmp name (others log) ≡ true → window (others log) ≤ length (targets stretch log)

@@ -6,7 +6,7 @@
 //!
 //! Defined in: `specs/Meaning/Step.antt`, `specs/Support/Step.antt`, `specs/Meaning/Window.antt`.
 //! Tested in: `lg_detector_tests/src/detector/open.rt`, `lg_detector_tests/src/detector/copies.rt`.
-ghost use Rattle.std.specs.Prelude.{◌≡◌, ℕ, ◌≤◌, ◌<◌, ◌+◌, ◌++◌, [], ◌∷◌, List, length};
+ghost use Rattle.std.specs.Prelude.{◌≡◌, ℕ, ◌≤◌, ◌<◌, ◌+◌, ◌++◌, [], ◌∷◌, List, length, reverse};
 ghost use Rattle.std.specs.Prelude.{IfOk, IsTrue, true, false, is_some};
 ghost use Rattle.std.specs.Option.{option_to_list};
 ghost use Rattle.lg_rules.specs.Meaning.Rows.{name_cmp, is_among};
@@ -19,10 +19,12 @@ ghost use Rattle.lg_detector.specs.Meaning.Log.{Log};
 ghost use Rattle.lg_detector.specs.Meaning.Probing.{others};
 ghost use Rattle.lg_detector.specs.Meaning.Window.{targets, AreOthers};
 ghost use Rattle.lg_detector.specs.Meaning.Step.{is_accepted, is_open_event, opens_well, begins_open};
-ghost use Rattle.lg_detector.specs.Meaning.Step.{reply_after, deadline_after};
+ghost use Rattle.lg_detector.specs.Meaning.Relaying.{is_next_in_use};
+ghost use Rattle.lg_detector.specs.Meaning.Step.{log_of, reply_after, deadline_after};
 ghost use Rattle.lg_detector.specs.Meaning.Choice.{choice_of_reply, targets_after};
 ghost use Rattle.lg_detector.specs.Support.Step as state;
 ghost use Rattle.lg_detector.specs.Support.Step.{answer_by_state, changed_by_state, fired_by_state, happen_state};
+ghost use Rattle.lg_detector.specs.Support.Step.{forgotten_by_state};
 ghost use Rattle.lg_detector.specs.Support.Step.{reply_state};
 ghost use Rattle.lg_detector.specs.Support.Step.{sends_by_state, step_state};
 ghost use Rattle.lg_detector.specs.Support.Step.{accepts_at, accepts_of, state_after};
@@ -33,15 +35,20 @@ use lg_membership::Membership;
 use lg_probe::{Order, Relays, Round};
 use lg_timers::Timers;
 use lg_timing::{Moment, Score};
+use numbers::LOWEST_NUMBER;
 use std::alloc::{AllocError, Global};
 use std::marker::Model;
 
 mod ask;
 mod facts;
+mod forget;
 mod gossip;
+mod group;
 mod hear;
 mod joining;
 mod leave;
+mod merge;
+mod numbers;
 mod open;
 mod readers;
 mod relay;
@@ -54,9 +61,6 @@ pub type NoMemory = AllocError;
 
 /// The most events that a detector accepts: 4,000,000,000 (this project's choice).
 pub const MAX_EVENTS: u64 = 4_000_000_000;
-
-/// The sequence number of the first probe or relay after an opening (this project's choice).
-const FIRST_NUMBER: u32 = 1;
 
 /// The failure detector of one member (SWIM, sections 3 and 4; Lifeguard).
 ///
@@ -75,12 +79,12 @@ struct Parts {
     moment: Moment,
     /// The health score (Lifeguard's local health multiplier, LHM).
     score: Score,
-    /// The timers that are set: those of the round, that of the next gossip, one for each suspicion, and at most two
-    /// for each relay.
+    /// The timers that are set: those of the round, that of the next gossip, one for each suspicion, at most two for
+    /// each relay, and one for each member that is gone and will be forgotten.
     timers: Timers,
     /// Whom rounds choose: the other members that aren't gone, and which of them were chosen in the current cycle.
     order: Order,
-    /// The next sequence number, for a probe or a relay.
+    /// The sequence number that comes next, for a probe or a relay.
     number: u32,
     /// The probe that runs, if one does.
     round: Option<Round>,
@@ -118,7 +122,7 @@ impl Detector {
                 score: Score::new(0),
                 timers: Timers::new(),
                 order: Order::new(),
-                number: FIRST_NUMBER,
+                number: LOWEST_NUMBER,
                 round: None,
                 gossip: None,
                 relays: Relays::new(),
@@ -216,6 +220,7 @@ impl Detector {
         ensures fired { reply.new.fired ≡ fired_by_state self.old event.now }
         ensures sends { reply.new.sends.items ≡ sends_by_state self.old event.now }
         ensures differing { reply.new.changed.items ≡ changed_by_state self.old event.now }
+        ensures forgotten { reply.new.forgotten.items ≡ forgotten_by_state self.old event.now }
         ensures answer { reply.new.answer ≡ answer_by_state self.old event.now }
     {
         match event {
@@ -292,6 +297,12 @@ pub fn accepted_lists()
         → is_open_event e ≡ false → length f + 1 < MAX_EVENTS → is_accepted (x ∷ f ++ e ∷ []) ≡ true }
     ensures opening { (now : ℕ) (opening : Configuration) → IsChecked opening
         → is_accepted (Opening now opening ∷ []) ≡ true }
+{}
+
+/// The sequence number that comes next is free. After an accepted list, neither the probe that runs nor an open relay
+/// has it, although the numbers begin anew behind the greatest.
+pub fn numbers_are_free()
+    ensures { (f : List Happened) → is_accepted f ≡ true → is_next_in_use (log_of (reverse f)) ≡ false }
 {}
 
 /// Whom a stretch of rounds chooses (SWIM, section 4.3). Suppose that throughout the stretch the others that aren't

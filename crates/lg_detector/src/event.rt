@@ -1,7 +1,7 @@
 //! The events: what happens to a detector.
 //!
 //! Defined in: `specs/Meaning/Step.antt`.
-//! Tested in: `lg_detector_tests/src/detector/happening.rt`.
+//! Tested in: `lg_detector_testing/src/happening.rt`.
 ghost use Rattle.std.specs.Prelude.{◌≡◌};
 
 use lg_packet::Packet;

@@ -22,6 +22,9 @@ pub const MAX_SENDS: usize = MAX_HELPERS;
 /// The most records that one event changes: one for each claim of a packet.
 pub const MAX_CHANGED: usize = MAX_CLAIMS;
 
+/// The most names that one event forgets: one for each claim of a packet that lacks room.
+pub const MAX_FORGOTTEN: usize = MAX_CLAIMS;
+
 /// A packet to be sent.
 #[derive(Debug, Drop)]
 pub struct Outgoing {
@@ -82,6 +85,9 @@ pub struct Reply {
     pub sends: Sends,
     /// The records that differ from those before the event, in the order of their names. An opening's reply has none.
     pub changed: ArrayVec<Record, MAX_CHANGED>,
+    /// The names that were forgotten, in the order in which they were. Such a name is unknown after the event, unless a
+    /// later claim of the same packet made it known again.
+    pub forgotten: ArrayVec<Name, MAX_FORGOTTEN>,
     /// The answer, if the event was a question.
     pub answer: Option<Answer>,
     /// Whether a claim about this member has come, since the opening, that nothing can refute.
@@ -99,6 +105,7 @@ impl Default for Reply {
       fired = None;
       sends = record { items = [] };
       changed = record { items = [] };
+      forgotten = record { items = [] };
       answer = None;
       ousted = false;
       next = 0;
@@ -109,6 +116,7 @@ impl Default for Reply {
             fired: None,
             sends: Sends::new(),
             changed: ArrayVec::new(),
+            forgotten: ArrayVec::new(),
             answer: None,
             ousted: false,
             next: 0,
@@ -136,6 +144,18 @@ fn copy_records(records: &[Record]) -> ArrayVec<Record, MAX_CHANGED>
     let mut copies = ArrayVec::new();
     for claim in records {
         copies.push(*claim);
+    }
+    copies
+}
+
+/// Copies of names.
+fn copy_names(names: &[Name]) -> ArrayVec<Name, MAX_FORGOTTEN>
+    requires { length names.now ≤ MAX_FORGOTTEN }
+    ensures { result.items ≡ names.now }
+{
+    let mut copies = ArrayVec::new();
+    for name in names {
+        copies.push(*name);
     }
     copies
 }
@@ -170,18 +190,20 @@ impl Reply {
         choice_by(self.fired, first_body(self.sends.as_slice()))
     }
 
-    /// Clears the timer, the packets, the changed records and the answer.
+    /// Clears the timer, the packets, the changed records, the forgotten names and the answer.
     pub(crate) fn say_nothing(&mut self)
         ensures { self.new ≡ record self.old {
           fired = None;
           sends = record { items = [] };
           changed = record { items = [] };
+          forgotten = record { items = [] };
           answer = None;
         } }
     {
         self.fired = None;
         self.sends.clear();
         self.changed.clear();
+        self.forgotten.clear();
         self.answer = None;
     }
 
@@ -193,6 +215,7 @@ impl Reply {
             fired: self.fired,
             sends: copy_sends(self.sends.as_slice()),
             changed: copy_records(self.changed.as_slice()),
+            forgotten: copy_names(self.forgotten.as_slice()),
             answer: self.answer,
             ousted: self.ousted,
             next: self.next,

@@ -1,27 +1,9 @@
-//! Tests of the crates from the rules up to the detector, over their public calls.
+//! Tests of the detector, event by event, and of groups of detectors.
 #![tactic(auto)]
 
 #[cfg(test)]
-mod bit_set;
-#[cfg(test)]
 mod detector;
 #[cfg(test)]
-mod gossip;
-#[cfg(test)]
-mod membership;
-#[cfg(test)]
-mod packet;
-#[cfg(test)]
-mod probe;
+mod playing;
 #[cfg(test)]
 mod refused_memory;
-#[cfg(test)]
-mod rules;
-#[cfg(test)]
-mod says;
-#[cfg(test)]
-mod suspicion;
-#[cfg(test)]
-mod timers;
-#[cfg(test)]
-mod timing;

@@ -1,10 +1,11 @@
 //! Memory that is refused once: `gate/refusals` refuses each allocation in turn. Without it none is refused.
-use crate::detector::Happens::{Opens, Ping};
-use crate::detector::Step::{self, Events, Takes};
-use crate::detector::{play_on, table_of};
-use crate::says::Said::{self, Alive};
-use crate::says::are_said;
+use crate::playing::play_on;
 use lg_detector::Detector;
+use lg_detector_testing::Happens::{Opens, Ping};
+use lg_detector_testing::Step::{self, Events, Takes};
+use lg_detector_testing::table_of;
+use lg_testing::says::Said::{self, Alive};
+use lg_testing::says::are_said;
 use std::alloc::Global;
 use std::process::Abort;
 

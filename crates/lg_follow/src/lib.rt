@@ -1,4 +1,5 @@
-//! Tells the members of an agent while it runs: each change of a record, as a line of text.
+//! Tells the members of an agent while it runs: each change of a record, and each name that was forgotten, as a line of
+//! text.
 //!
 //! [`watch`] is a thread's work. It looks at the agent by a pass of its own, so it takes no lock. A call that
 //! publishes waits only until a look has left.

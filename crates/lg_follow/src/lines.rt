@@ -3,14 +3,15 @@
 //! Defined in: `specs/Meaning/Lines.antt`, `specs/Support/Telling.antt`.
 //! Tested in: `lg_node_tests/src/watching.rt`.
 ghost use Rattle.std.specs.Prelude.{◌≡◌, ◌++◌, OnOk};
-ghost use Rattle.lg_follow.specs.Meaning.Lines.{told_line, told_lines, changed_lines, missed_line, stood_line};
+ghost use Rattle.lg_follow.specs.Meaning.Lines.{told_line, told_lines, forgotten_line, changed_line};
+ghost use Rattle.lg_follow.specs.Meaning.Lines.{changed_lines, missed_line, stood_line};
 ghost use Rattle.lg_follow.specs.Support.Telling.{found_text};
 
 use arrayvec::ArrayString;
 use itoa::Buffer;
-use lg_changes::{Behind, Change};
+use lg_changes::{Altered, Behind, Change};
 use lg_lines::{NoMemory, put_table};
-use lg_rules::Record;
+use lg_rules::{Name, Record};
 use lg_timing::Moment;
 use lg_view::Overview;
 
@@ -38,12 +39,34 @@ fn put_members(moment: Moment, records: &[Record], text: &mut Vec<u8>) -> Result
     Ok(())
 }
 
+/// Appends to a text the line of a name that was forgotten.
+fn put_forgotten(moment: Moment, name: &Name, text: &mut Vec<u8>) -> Result<(), NoMemory>
+    ensures { OnOk result (text.new.items ≡ text.old.items ++ forgotten_line moment name.now) }
+{
+    let mut digits = Buffer::new();
+    text.extend_from_slice(digits.format(moment.milliseconds()).as_bytes())?;
+    text.extend_from_slice(b" forgotten ")?;
+    text.extend_from_slice(name.as_bytes())?;
+    text.extend_from_slice(b"\n")?;
+    Ok(())
+}
+
+/// Appends the line of a change to a text.
+fn put_change(change: &Change, text: &mut Vec<u8>) -> Result<(), NoMemory>
+    ensures { OnOk result (text.new.items ≡ text.old.items ++ changed_line change.now) }
+{
+    match &change.altered {
+        Altered::Recorded(member) => put_line(change.moment, member, text),
+        Altered::Forgotten(name) => put_forgotten(change.moment, name, text),
+    }
+}
+
 /// Appends the lines of changes to a text.
 fn put_changes(changes: &[Change], text: &mut Vec<u8>) -> Result<(), NoMemory>
     ensures { OnOk result (text.new.items ≡ text.old.items ++ changed_lines changes.now) }
 {
     for change in changes {
-        put_line(change.moment, &change.member, text)?;
+        put_change(change, text)?;
     }
     Ok(())
 }

@@ -35,17 +35,17 @@ fn finish<C: Clock, W: Write>(clock: &C, writer: &mut W, turned: Watched) -> Wat
     }
 }
 
-/// Tells each change of a record until the stop flag is set: each once, in the order in which they happened, also those
-/// that came and went between two looks.
+/// Tells each change of a record, and each name that was forgotten, until the stop flag is set: each once, in the order
+/// in which they happened, also those that came and went between two looks.
 ///
 /// It begins with a line for each member, its own included, in the order of names:
 /// `MS record NAME STATUS INCARNATION ADDRESS:PORT`, as [`put_table`](lg_lines::put_table) writes a record. Then it
-/// looks whenever there is news, and writes such a line for each change since the look before. MS of a change is the
-/// greatest moment handed in by then, in milliseconds, and MS of a member the greatest that the look found. If more
-/// than 1,024 changes came between two looks, they aren't all kept ([`MAX_CHANGES`](lg_changes::MAX_CHANGES)). It
-/// writes a line `MS missed` in their place, and then a line for each member. The news has to come when the stop flag
-/// was set too. After the flag was seen, it looks once more, and ends with a line `MS stood-still N`: by the moment MS
-/// its clock has left out N milliseconds.
+/// looks whenever there is news, and tells each change since the look before: by such a line if a record changed, and
+/// by a line `MS forgotten NAME` if a name was forgotten. MS of a change is the greatest moment handed in by then, in
+/// milliseconds, and MS of a member the greatest that the look found. If more than 1,024 changes came between two
+/// looks, they aren't all kept ([`MAX_CHANGES`](lg_changes::MAX_CHANGES)). It writes a line `MS missed` in their place,
+/// and then a line for each member. The news has to come when the stop flag was set too. After the flag was seen, it
+/// looks once more, and ends with a line `MS stood-still N`: by the moment MS its clock has left out N milliseconds.
 ///
 /// Its looks take no lock. A turn before which no event came allocates nothing; others allocate memory for 256 records,
 /// for a copy of the changes, and for the text if it has to grow. If memory or the view is refused, the lines are told

@@ -48,6 +48,10 @@ impl Group {
                 self.settings.set(key, number);
                 Ok(())
             }
+            Command::SetGroup { group } => {
+                self.settings.group = Some(group);
+                Ok(())
+            }
             Command::Open {
                 name,
                 port,

@@ -26,7 +26,7 @@ use Rattle.std.proofs.Common.{
   ap,
   arith,
 }
-use Rattle.std.specs.Prelude.{insert, nat_eq, slice_get}
+use Rattle.std.specs.Prelude.{insert, remove, nat_eq, slice_get}
 use Rattle.std.proofs.lemmas.Bool.{cases_eq, eq-eqb, ne_eqb}
 use Rattle.std.proofs.lemmas.List.{
   set-get_or,
@@ -38,10 +38,10 @@ use Rattle.std.proofs.lemmas.List.{
   length-replicate,
 }
 use Rattle.std.proofs.lemmas.Option.{slice_get_within, get_or_from_slice_get}
-use Rattle.lg_bit_set.specs.Meaning.Flags.{no_flags, flags_by, opened_flags}
+use Rattle.lg_bit_set.specs.Meaning.Flags.{no_flags, flags_by, opened_flags, closed_flags}
 use Rattle.lg_bit_set.proofs.FilterLaws.{get_or-flags_by}
 use Rattle.lg_bit_set.proofs.Opening.{get_or-opened_flags}
-use Rattle.lg_bit_set.proofs.TestLaws.{length-flags_by, no_flags-flags_by, opened_flags-flags_by, set-flags_by}
+use Rattle.lg_bit_set.proofs.TestLaws.{length-flags_by, no_flags-flags_by, opened_flags-flags_by, closed_flags-flags_by, set-flags_by}
 use Rattle.lg_gossip.specs.declared.queue.TheConstants.{MAX_QUEUED}
 use Rattle.lg_gossip.specs.declared.queued.Queued.{Queued}
 use Rattle.lg_gossip.specs.declared.sets.TheConstants.{SETS}
@@ -179,6 +179,19 @@ module _ (sent opened : List (List Bool)) (rows : List Queued) (row : Queued) (i
           ∙ filled_place sends false (sym (ne_eqb so sends (λ e. n (sym e))))
     ];
   }
+
+-- once a row is removed, its place is closed in each set
+pub sets-closed : (sent closed : List (List Bool)) (rows : List Queued) (index : ℕ) → AreSets sent rows
+    → length closed ≡ length sent
+    → ((sends : ℕ) (d : List Bool) → sends < SETS → get_or closed sends d ≡ closed_flags index (get_or sent sends d))
+    → length rows ≤ MAX_QUEUED → index < length rows → AreSets closed (remove rows index)
+sets-closed sent closed rows index sets long each few within = record {
+  long = long ∙ sets.long;
+  each = λ sends d l.
+      each sends d l
+      ∙ ap (closed_flags index) (sets.each sends d l)
+      ∙ closed_flags-flags_by (was_sent sends) rows index few within;
+}
 
 -- where there are no rows, no set has one
 pub sets-none : (flags : List Bool) → flags ≡ no_flags → AreSets (replicate SETS flags) []

@@ -24,11 +24,12 @@ use Rattle.std.specs.List.{AllByRecursion}
 use Rattle.lg_rules.specs.declared.claim.Claim.{Claim}
 use Rattle.lg_rules.specs.declared.version.Version.{Version}
 use Rattle.lg_rules.specs.Meaning.Claim.{name_of}
-use Rattle.lg_rules.specs.Meaning.Rows.{name_cmp, is_among, put_row, put_key, Rises}
+use Rattle.lg_rules.specs.Meaning.Rows.{name_cmp, is_same, is_among, put_row, put_key, without_row, Rises}
 use Rattle.lg_rules.specs.Meaning.Version.{tells}
 use Rattle.std.proofs.lemmas.Bool.{cases_Bool}
 use Rattle.lg_rules.proofs.Cases.{Below, Tied, Above, compared}
 use Rattle.lg_rules.proofs.KeyOrder.{names_order}
+use Rattle.lg_rules.proofs.Removing.{rises-without}
 use Rattle.lg_rules.proofs.Rises.{rises-put}
 use Rattle.lg_gossip.specs.declared.queued.Queued.{Queued}
 use Rattle.lg_gossip.specs.Meaning.Queue.{
@@ -89,6 +90,27 @@ sound-put lambda fewest v c sent now rows s sets = record {
       (rises-put names_order c.name (map queued_name rows) s.in_order);
   within = within-put most_times_sent (fresh v c) rows (within-fresh v c) s.within;
   least = sent-none (put_row name_cmp queued_name (fresh v c) rows);
+  sets = sets;
+}
+
+-- what holds of all rows holds of those but one
+all-without : (P : Queued → Type 0) (name : List ℕ) (rows : List Queued) → AllByRecursion P rows
+    → AllByRecursion P (without_row name_cmp queued_name name rows)
+all-without P name [] all = all
+all-without P name (q ∷ qs) all = elim (cases_Bool (is_same name_cmp (queued_name q) name)) [
+  | inl t ↦ rw t (all-without P name qs all.1)
+  | inr f ↦ rw f (all.0, all-without P name qs all.1)
+]
+
+pub sound-removed : (lambda fewest : ℕ) (name : List ℕ) (sent now : List (List Bool)) (rows : List Queued)
+    → IsSound lambda fewest sent rows
+    → AreSets now (without_row name_cmp queued_name name rows)
+    → IsSound lambda fewest now (without_row name_cmp queued_name name rows)
+sound-removed lambda fewest name sent now rows s sets = record {
+  often = s.often;
+  in_order = rises-without names_order queued_name name rows s.in_order;
+  within = all-without (λ q. q.sends ≤ most_times_sent) name rows s.within;
+  least = all-without (λ q. fewest ≤ q.sends) name rows s.least;
   sets = sets;
 }
 

@@ -1,7 +1,7 @@
 //! Whether rows of the queue are below the retransmit limit.
 //!
 //! Defined in: `specs/Meaning/Queue.antt`.
-//! Tested in: `lg_detector_tests/src/gossip.rt`.
+//! Tested in: `lg_parts_tests/src/gossip.rt`.
 ghost use Rattle.std.specs.Prelude.{◌≡◌, ◌≤◌, List, nat_lt};
 ghost use Rattle.std.specs.List.{list_any};
 ghost use Rattle.lg_gossip.specs.declared.queued.Queued.{Queued as Row};

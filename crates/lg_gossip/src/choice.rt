@@ -1,7 +1,7 @@
 //! Which claims of the queue a packet takes.
 //!
 //! Defined in: `specs/Meaning/Queue.antt`.
-//! Tested in: `lg_detector_tests/src/gossip.rt`.
+//! Tested in: `lg_parts_tests/src/gossip.rt`.
 ghost use Rattle.std.specs.Prelude.{◌≡◌, ◌≤◌, ◌<◌, ◌+◌};
 ghost use Rattle.std.specs.Prelude.{◌++◌, ℕ, List, not, length, map, take, insert};
 ghost use Rattle.std.specs.Prelude.{if◌then◌else◌, nat_eq, nat_le, nat_lt, option_copied, slice_index_or};

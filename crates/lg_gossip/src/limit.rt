@@ -1,7 +1,7 @@
 //! The retransmit limit: how often a claim may be sent.
 //!
 //! Defined in: `specs/Meaning/Queue.antt`.
-//! Tested in: `lg_detector_tests/src/gossip.rt`.
+//! Tested in: `lg_parts_tests/src/gossip.rt`.
 ghost use Rattle.std.specs.Prelude.{◌≡◌, ◌≤◌, ◌*◌};
 ghost use Rattle.lg_gossip.specs.Meaning.Queue.{decimal_digits, limit_of};
 

@@ -1,18 +1,19 @@
 //! The queue of claims that ride on packets.
 //!
 //! Defined in: `specs/Meaning/Queue.antt`.
-//! Tested in: `lg_detector_tests/src/gossip.rt`.
+//! Tested in: `lg_parts_tests/src/gossip.rt`.
 ghost use Rattle.std.specs.Prelude.{◌≡◌, ◌≤◌, ◌<◌, [], length, map, None, option_copied};
 ghost use Rattle.std.specs.List.{IsDistinct};
 ghost use Rattle.lg_rules.specs.Meaning.Rows.{name_cmp, is_same, row_at};
 ghost use Rattle.lg_rules.specs.Meaning.Claim.{name_of};
-ghost use Rattle.lg_gossip.specs.Meaning.Queue.{queued_name, put_of, fill_of, filled, has_news, may_send_about};
+ghost use Rattle.lg_gossip.specs.Meaning.Queue.{queued_name, put_of, removed, fill_of, filled};
+ghost use Rattle.lg_gossip.specs.Meaning.Queue.{has_news, may_send_about};
 
 use crate::below::is_any_below;
 use crate::choice::{buddy_of, count_sends, fewest_after, rows_taken, write_claims};
 use crate::limit::send_limit;
 use crate::queued::Queued;
-use crate::sets::{SETS, clear_sets, put_fresh};
+use crate::sets::{SETS, clear_sets, close_row, put_fresh};
 use arrayvec::ArrayVec;
 use lg_bit_set::BitSet;
 use lg_rules::{Claim, MAX_CLAIMS, MAX_LAMBDA, MAX_MEMBERS, Name, Record, Version, index_of};
@@ -139,6 +140,16 @@ impl Queue {
     {
         put_fresh(&mut self.rows, &mut self.sent, self.version, claim);
         self.fewest = 0;
+    }
+
+    /// Drops the claim about the member with this name, if there is one. The others stay as they are.
+    pub fn remove(&mut self, name: &Name)
+        ensures { self.new ≡ removed name.now self.old }
+    {
+        if let Ok(index) = index_of(self.rows.as_slice(), name) {
+            self.rows.remove(index);
+            close_row(&mut self.sent, index as u8);
+        }
     }
 
     /// Replaces what `claims` holds by the claims of the next packet. `live` is the number of members that aren't

@@ -1,7 +1,7 @@
 //! A claim that waits to be sent, and how often it was sent.
 //!
 //! Defined in: `specs/Meaning/Queue.antt`.
-//! Tested in: `lg_detector_tests/src/gossip.rt`.
+//! Tested in: `lg_parts_tests/src/gossip.rt`.
 ghost use Rattle.std.specs.Prelude.{◌≡◌};
 
 use crate::limit::MAX_TIMES_SENT;

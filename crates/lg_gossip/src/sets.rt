@@ -1,11 +1,11 @@
 //! The rows of the queue by how often they were sent: a set of indexes for each number of sends.
 //!
 //! Defined in: `specs/Support/Sets.antt`.
-//! Tested in: `lg_detector_tests/src/gossip.rt`.
+//! Tested in: `lg_parts_tests/src/gossip.rt`.
 ghost use Rattle.std.specs.Prelude.{◌≡◌, ◌≢◌, ◌≤◌, ◌<◌, ℕ, List, [], Bool, true, false, length, Some};
-ghost use Rattle.std.specs.Prelude.{None, slice_get, slice_index_or, slice_set, insert};
+ghost use Rattle.std.specs.Prelude.{None, slice_get, slice_index_or, slice_set, insert, remove};
 ghost use Rattle.arrayvec.specs.ArrayVec.{array_vec_len};
-ghost use Rattle.lg_bit_set.specs.Meaning.Flags.{opened_flags};
+ghost use Rattle.lg_bit_set.specs.Meaning.Flags.{opened_flags, closed_flags};
 ghost use Rattle.lg_gossip.specs.declared.queued.Queued.{Queued as Row};
 ghost use Rattle.lg_rules.specs.Meaning.Rows.{name_cmp, put_row, row_at};
 ghost use Rattle.lg_gossip.specs.Meaning.Queue.{fresh, queued_name};
@@ -90,6 +90,16 @@ pub(crate) fn open_row(sent: &mut [BitSet; SETS], index: u8, sends: usize)
 {
     open_sets(sent, index);
     add_to(sent, sends, index);
+}
+
+/// Takes the place of an index away from each set.
+pub(crate) fn close_row(sent: &mut [BitSet; SETS], index: u8)
+    ensures { (rows : List Row) → AreSets sent.old rows → length rows ≤ MAX_QUEUED → index < length rows
+        → AreSets sent.new (remove rows index) }
+{
+    for sends in 0..SETS {
+        sent[sends].close(index);
+    }
 }
 
 /// Puts a claim that no packet has taken yet among the rows, which have to be in the order of their names: replaces the

@@ -15,8 +15,9 @@ use std::marker::Model;
 ///
 /// It takes the memory that the event and the reply need. With its part of the history's list, a tick that fires
 /// nothing takes at most 320 bytes, and a Ping without claims and its Ack at most 576. A packet of twelve claims
-/// that changes twelve records and is answered by twelve claims takes at most 4,096 (the bounds are this project's
-/// choice). If memory for the reply was refused, the reply is in a box for a whole one, some 11 KB.
+/// that changes twelve records and is answered by twelve claims takes at most 4,096, and at most 4,480 if twelve
+/// members are forgotten to make room for them (the bounds are this project's choice). If memory for the reply was
+/// refused, the reply is in a box for a whole one, some 12 KB.
 ///
 /// A contract sees it as the record of the three.
 #[derive(Drop)]
@@ -49,7 +50,7 @@ impl Entry {
         self.event.event()
     }
 
-    /// A copy of the reply, of some 5 KB. Allocates nothing.
+    /// A copy of the reply, of some 12 KB. Allocates nothing.
     pub fn reply(&self) -> Reply
         ensures { result ≡ self.now.reply }
     {

@@ -36,6 +36,7 @@ fn reply_room(alloc: Global) -> Result<Box<Reply>, NoMemory>
       fired = None;
       sends = record { items = [] };
       changed = record { items = [] };
+      forgotten = record { items = [] };
       answer = None;
       ousted = false;
       next = 0;
@@ -140,7 +141,7 @@ impl History {
     /// Adds the prepared entry, with this reply, after all others. If nothing is prepared, it changes nothing.
     ///
     /// It always succeeds. It tries to allocate the memory that the reply needs. If that is refused, the entry keeps
-    /// the box for a whole reply, some 5 KB.
+    /// the box for a whole reply, some 12 KB.
     pub fn complete(&mut self, alloc: Global, reply: &Reply)
         ensures { self.new ≡ completed reply.now self.old }
     {

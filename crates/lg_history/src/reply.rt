@@ -5,6 +5,7 @@
 ghost use Rattle.std.specs.Prelude.{◌≡◌, ◌≤◌, length, option_copied, option_map, IfOk};
 ghost use Rattle.lg_detector.specs.declared.reply.TheConstants.{MAX_SENDS};
 ghost use Rattle.lg_detector.specs.Meaning.Choice.{choice_of_reply, first_body};
+ghost use Rattle.lg_history.specs.Support.Stored.{reply_in, told_but_forgotten};
 
 use crate::packet::StoredOutgoing;
 use arrayvec::ArrayVec;
@@ -14,7 +15,8 @@ use lg_rules::{Name, Record};
 use std::alloc::Global;
 use std::marker::Model;
 
-/// A reply whose packets and records are in lists of exactly their number. A contract sees it as the reply.
+/// A reply that forgot nobody, whose packets and records are in lists of exactly their number. A contract sees it as
+/// the reply.
 #[derive(Drop)]
 pub(crate) struct ExactReply {
     fired: Option<Box<Timer>>,
@@ -26,7 +28,7 @@ pub(crate) struct ExactReply {
 }
 
 impl Model for ExactReply {
-    ghost use Rattle.std.specs.Prelude.{◌≤◌, length, option_map};
+    ghost use Rattle.std.specs.Prelude.{◌≤◌, [], length, option_map};
     ghost use Rattle.lg_detector.specs.declared.reply.Reply.{Reply};
     ghost use Rattle.lg_detector.specs.declared.reply.TheConstants.{MAX_SENDS, MAX_CHANGED};
 
@@ -36,6 +38,7 @@ impl Model for ExactReply {
       fired = option_map (λ it. it.value) r.fired;
       sends = record { items = r.sends.items };
       changed = record { items = r.changed.items };
+      forgotten = record { items = [] };
       answer = option_map (λ it. it.value) r.answer;
       ousted = r.ousted;
       next = r.next;
@@ -116,9 +119,9 @@ fn sends_in(stored: &[StoredOutgoing]) -> Sends
 }
 
 impl ExactReply {
-    /// Stores a reply. Allocates memory for each part that it has.
+    /// Stores a reply, but for the names that it has as forgotten. Allocates memory for each part that it has.
     fn of(alloc: Global, reply: &Reply) -> Result<ExactReply, NoMemory>
-        ensures { IfOk result (λ stored. stored ≡ reply.now) }
+        ensures { IfOk result (λ stored. stored ≡ told_but_forgotten reply.now) }
     {
         let fired = store_timer(alloc, &reply.fired)?;
         let sends = store_sends(alloc, reply.sends.as_slice())?;
@@ -152,6 +155,7 @@ impl ExactReply {
             fired: timer_in(&self.fired),
             sends: sends_in(self.sends.as_slice()),
             changed,
+            forgotten: ArrayVec::new(),
             answer: answer_in(&self.answer),
             ousted: self.ousted,
             next: self.next,
@@ -159,11 +163,46 @@ impl ExactReply {
     }
 }
 
+/// A reply that forgot somebody, which few do. A contract sees it as the reply.
+#[derive(Drop)]
+pub(crate) struct ForgettingReply {
+    exact: ExactReply,
+    forgotten: Vec<Name>,
+}
+
+impl Model for ForgettingReply {
+    ghost use Rattle.std.specs.Prelude.{◌≤◌, length};
+    ghost use Rattle.lg_detector.specs.declared.reply.Reply.{Reply};
+    ghost use Rattle.lg_detector.specs.declared.reply.TheConstants.{MAX_FORGOTTEN};
+
+    ghost Value = { Reply };
+
+    ghost view = { λ r. record r.exact { forgotten = record { items = r.forgotten.items } } };
+
+    ghost invariant = { λ r. length r.forgotten.items ≤ MAX_FORGOTTEN };
+}
+
+impl ForgettingReply {
+    /// The reply.
+    fn reply(&self) -> Reply
+        ensures { result ≡ self.now }
+    {
+        let mut reply = self.exact.reply();
+        let mut forgotten = ArrayVec::new();
+        let copied = forgotten.try_extend_from_slice(self.forgotten.as_slice());
+        prove!(copied.is_ok());
+        reply.forgotten = forgotten;
+        reply
+    }
+}
+
 /// How a reply is stored.
 #[derive(Drop)]
 enum Form {
-    /// In as much memory as it needs.
+    /// In as much memory as it needs, if it forgot nobody.
     Exact(Box<ExactReply>),
+    /// In as much memory as it needs, if it forgot somebody.
+    Forgetting(Box<ForgettingReply>),
     /// In a box that any reply fits in, if memory was refused.
     Whole(Box<Reply>),
 }
@@ -184,11 +223,16 @@ impl Model for StoredReply {
 }
 
 /// Stores a reply in as much memory as it needs.
-fn store_exactly(alloc: Global, reply: &Reply) -> Result<Box<ExactReply>, NoMemory>
-    ensures { IfOk result (λ stored. stored.value ≡ reply.now) }
+fn store_exactly(alloc: Global, reply: &Reply) -> Result<Form, NoMemory>
+    ensures { IfOk result (λ form. reply_in form ≡ reply.now) }
 {
     let exact = ExactReply::of(alloc, reply)?;
-    Ok(Box::new(alloc, exact)?)
+    if reply.forgotten.is_empty() {
+        return Ok(Form::Exact(Box::new(alloc, exact)?));
+    }
+    let forgotten = Vec::from_slice(alloc, reply.forgotten.as_slice())?;
+    let stored = ForgettingReply { exact, forgotten };
+    Ok(Form::Forgetting(Box::new(alloc, stored)?))
 }
 
 /// Stores a reply in a box that any reply fits in. It isn't inlined: a function that copies a reply pays for its size
@@ -213,10 +257,7 @@ impl StoredReply {
         ensures { result.0 ≡ reply.now }
     {
         match store_exactly(alloc, reply) {
-            Ok(exact) => {
-                let form = Form::Exact(exact);
-                (StoredReply { form }, Some(room))
-            }
+            Ok(form) => (StoredReply { form }, Some(room)),
             Err(_refused) => {
                 let form = Form::Whole(store_whole(room, reply));
                 (StoredReply { form }, None)
@@ -230,6 +271,7 @@ impl StoredReply {
     {
         match &self.form {
             Form::Exact(exact) => exact.chosen(),
+            Form::Forgetting(forgetting) => forgetting.exact.chosen(),
             Form::Whole(whole) => whole.chosen(),
         }
     }
@@ -240,6 +282,7 @@ impl StoredReply {
     {
         match &self.form {
             Form::Exact(exact) => exact.reply(),
+            Form::Forgetting(forgetting) => forgetting.reply(),
             Form::Whole(whole) => whole.copy(),
         }
     }

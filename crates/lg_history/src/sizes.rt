@@ -6,10 +6,11 @@
 use crate::entry::Entry;
 use crate::event::Hearing;
 use crate::packet::StoredOutgoing;
-use crate::reply::ExactReply;
-use lg_rules::{Claim, MAX_CLAIMS, Record};
+use crate::reply::{ExactReply, ForgettingReply};
+use lg_detector::MAX_FORGOTTEN;
+use lg_rules::{Claim, MAX_CLAIMS, Name, Record};
 
-/// The slot in the list, and the reply without packets, records and answer.
+/// The slot in the list, and the reply without packets, records, names and answer.
 const LEAST: usize = 2 * size_of::<Entry>() + size_of::<ExactReply>();
 
 /// The claims of a full packet, in a list.
@@ -24,8 +25,15 @@ const PING: usize = LEAST + size_of::<Hearing>() + size_of::<StoredOutgoing>();
 /// A Ping of twelve claims that change twelve records, and its Ack of twelve claims.
 const FULL_PING: usize = PING + 2 * CLAIMS + MAX_CLAIMS * size_of::<Record>();
 
+/// The same, where each claim needs room, and a member is forgotten for it.
+const CROWDED_PING: usize = FULL_PING
+    + size_of::<ForgettingReply>()
+    + MAX_FORGOTTEN * size_of::<Name>();
+
 const _: () = prove!(IDLE_TICK <= 320);
 
 const _: () = prove!(PING <= 576);
 
 const _: () = prove!(FULL_PING <= 4096);
+
+const _: () = prove!(CROWDED_PING <= 4480);

@@ -9,7 +9,7 @@ ghost use Rattle.lg_text.specs.Meaning.Addresses.{addr_text, dotted};
 
 use itoa::Buffer;
 use lg_detector::NoMemory;
-use lg_rules::{Addr, Ip, Record, Status};
+use lg_rules::{Addr, Ip, Name, Record, Status};
 
 /// The most bytes of an IPv6 address in brackets with its port, as in
 /// `[2001:db8:1111:2222:3333:4444:5555:6666]:65535`.
@@ -44,6 +44,16 @@ pub(crate) fn put_numbered(word: &str, number: u64, text: &mut Vec<u8>) -> Resul
 {
     put(word.as_bytes(), text)?;
     put_number(number, text)?;
+    Ok(())
+}
+
+/// Appends a word and a name to a text.
+pub(crate) fn put_named(word: &str, name: &Name, text: &mut Vec<u8>) -> Result<(), NoMemory>
+    ensures put { OnOk result (text.new.items ≡ text.old.items ++ (word.now ++ name.now)) }
+    ensures front { StartsWith text.new.items text.old.items }
+{
+    put(word.as_bytes(), text)?;
+    put(name.as_bytes(), text)?;
     Ok(())
 }
 
@@ -102,8 +112,7 @@ fn put_accuser(status: &Status, text: &mut Vec<u8>) -> Result<(), NoMemory>
     ensures front { StartsWith text.new.items text.old.items }
 {
     if let Status::Suspect(accuser) = status {
-        put(b" by ", text)?;
-        put(accuser.as_bytes(), text)?;
+        put_named(" by ", accuser, text)?;
     }
     Ok(())
 }

@@ -4,14 +4,15 @@
 //! Tested in: `cases/sim_replies.case`, `lg_command_tests/src/replies.rt`.
 ghost use Rattle.std.specs.Prelude.{◌≡◌, ◌+◌, ◌<◌, ◌^◌, ◌++◌, OnErr, OnOk, length};
 ghost use Rattle.std.specs.Io.{StartsWith};
-ghost use Rattle.lg_lines.specs.Meaning.Replies.{answer_line, fired_text, health_text, kind_text, next_text};
+ghost use Rattle.lg_lines.specs.Meaning.Replies.{answer_line, fired_text, forgot_line, forgotten_text};
+ghost use Rattle.lg_lines.specs.Meaning.Replies.{health_text, kind_text, next_text};
 ghost use Rattle.lg_lines.specs.Meaning.Replies.{ousted_text, reply_text, send_line, sends_text};
 ghost use Rattle.lg_lines.specs.Meaning.Replies.{subject_text, tick_text, told_text};
 
 use crate::packet::{PacketRow, put_hex};
-use crate::records::{put, put_addr, put_numbered, put_record, put_records};
+use crate::records::{put, put_addr, put_named, put_numbered, put_record, put_records};
 use lg_detector::{Answer, Event, MAX_SENDS, NoMemory, Outgoing, Reply, Timer, TimerId};
-use lg_rules::Incarnation;
+use lg_rules::{Incarnation, Name};
 
 /// The word for the kind of a timer.
 fn kind_word(id: &TimerId) -> &'static str
@@ -24,6 +25,7 @@ fn kind_word(id: &TimerId) -> &'static str
         TimerId::RelayNack(_) => "relay-nack",
         TimerId::RelayEnd(_) => "relay-end",
         TimerId::RoundStart => "round-start",
+        TimerId::Forget(_) => "forget",
         TimerId::Gossip => "gossip",
     }
 }
@@ -34,10 +36,8 @@ fn put_subject(id: &TimerId, text: &mut Vec<u8>) -> Result<(), NoMemory>
     ensures front { StartsWith text.new.items text.old.items }
 {
     match id {
-        TimerId::Suspicion(member) => {
-            put(b" ", text)?;
-            put(member.as_bytes(), text)?;
-        }
+        TimerId::Suspicion(member) => put_named(" ", member, text)?,
+        TimerId::Forget(member) => put_named(" ", member, text)?,
         TimerId::RelayNack(relay) => put_numbered(" ", u64::from(*relay), text)?,
         TimerId::RelayEnd(relay) => put_numbered(" ", u64::from(*relay), text)?,
         TimerId::RoundEnd | TimerId::Direct | TimerId::RoundStart | TimerId::Gossip => {}
@@ -156,6 +156,28 @@ fn put_sends(
     Ok(())
 }
 
+/// Appends to a text the line of a name that was forgotten.
+fn put_forgot(name: &Name, text: &mut Vec<u8>) -> Result<(), NoMemory>
+    ensures put { OnOk result (text.new.items ≡ text.old.items ++ forgot_line name.now) }
+    ensures front { StartsWith text.new.items text.old.items }
+{
+    put_named("forgot ", name, text)?;
+    put(b"\n", text)?;
+    Ok(())
+}
+
+/// Appends to a text the lines of names that were forgotten, in the order in which they are given.
+#[tactic(auto, unfolding(crate::specs::Meaning::Replies::forgotten_text))]
+fn put_forgotten(names: &[Name], text: &mut Vec<u8>) -> Result<(), NoMemory>
+    ensures put { OnOk result (text.new.items ≡ text.old.items ++ forgotten_text names.now) }
+    ensures front { StartsWith text.new.items text.old.items }
+{
+    for name in names {
+        put_forgot(name, text)?;
+    }
+    Ok(())
+}
+
 /// Appends the line of the flag `ousted` to a text, if it is set.
 fn put_ousted(ousted: bool, text: &mut Vec<u8>) -> Result<(), NoMemory>
     ensures put { OnOk result (text.new.items ≡ text.old.items ++ ousted_text ousted) }
@@ -194,6 +216,7 @@ fn put_lines(
     put_answer(&reply.answer, text)?;
     put_sends(first, reply.sends.as_slice(), row, text)?;
     put_records(reply.changed.as_slice(), text)?;
+    put_forgotten(reply.forgotten.as_slice(), text)?;
     put_ousted(reply.ousted, text)?;
     put_next(reply.next, text)?;
     Ok(())
@@ -207,6 +230,7 @@ fn put_lines(
 ///   or an IPv6 address in brackets. The numbers K count on from `first`. There are at most [`MAX_SENDS`], and their
 ///   numbers must fit in 64 bits;
 /// - `record RECORD` for each record that changed, as [`put_table`](crate::put_table) writes it;
+/// - `forgot NAME` for each name that was forgotten, in order;
 /// - `ousted` if the flag is set;
 /// - `next MOMENT`, always.
 ///

@@ -1,6 +1,6 @@
 //! The calls of a loop. A call that is refused because the history is full is made again, once, after a rotation.
 //! An answered call writes its reply over the one that the loop keeps, and returns the position of its entry. That of a
-//! datagram says too whether its packet is a Page.
+//! datagram says too whether its packet is a Page, and which group it names.
 //!
 //! Defined in: `lg_agent/specs/Meaning/Calls.antt`, `specs/Meaning/Turns.antt`.
 //! Tested in: `lg_node_tests/src/node/rotating.rt`, `lg_node_tests/src/node/receiving.rt`.
@@ -52,7 +52,7 @@ pub(crate) fn datagram<A: AgentName, R: Wait, C>(
 ) -> Result<HeardPacket, Refusal>
     ensures answered { IfOk result (λ heard. (p : Read) × (packet_of bytes.now ≡ Ok p)
         × IsCall pass.old (Heard now source p) (receipt_of heard.place reply.new) pass.new
-        × (heard.is_page ≡ is_page p.body)) }
+        × (heard.is_page ≡ is_page p.body) × (heard.group ≡ p.group)) }
     ensures refused { OnErr result (MadeNoCall pass.old pass.new) }
     ensures kept { OnErr result (reply.new ≡ reply.old) }
     ensures bad { (f : Broken) → packet_of bytes.now ≡ Err f

@@ -1,4 +1,4 @@
-//! How the loops tell a thread that a record has changed.
+//! How the loops tell a thread that a record has changed, or a member was forgotten.
 //!
 //! Defined in: this file.
 //! Tested in: `lg_node_tests/src/node/changing.rt`, `cases/groups`.
@@ -6,7 +6,8 @@ use std::rt::Clock;
 use std::sync::{Condvar, Mutex, Wait};
 use std::time::Duration;
 
-/// Wakes a thread when a record has changed. Threads share it by reference. No call allocates.
+/// Wakes a thread when a record has changed, or a member was forgotten. Threads share it by reference. No call
+/// allocates.
 #[derive(Drop)]
 pub struct ChangeSignal {
     /// Whether it was set since the last wait.
@@ -24,8 +25,8 @@ impl ChangeSignal {
         }
     }
 
-    /// Sets it: a record has changed, or whoever waits is to look once more. It waits for the lock, which is held only
-    /// while a wait begins or ends.
+    /// Sets it: a record has changed, a member was forgotten, or whoever waits is to look once more. It waits for the
+    /// lock, which is held only while a wait begins or ends.
     pub fn set<R: Wait>(&self, rt: &R) {
         *self.is_set.lock(rt) = true;
         self.set.notify_all();

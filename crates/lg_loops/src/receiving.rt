@@ -39,6 +39,9 @@ fn hear<A: AgentName, R: Wait, L: Link, C>(
 {
     match calling::datagram(shared, &mut side.pass, now, source, bytes, reply) {
         Ok(heard) => {
+            if heard.group != shared.group {
+                shared.counters.note_other_group();
+            }
             if heard.is_page {
                 shared.page_heard.store(true, SeqCst);
             }
@@ -80,7 +83,8 @@ fn receive_turn<A: AgentName, R: Wait, L: Link, C: Clock>(
 ///
 /// It makes at most `shared.bound` turns, each of which waits for a datagram, `shared.wait_ms` milliseconds at most.
 /// If it is endless it then goes on, and counts them anew. A datagram whose bytes are no packet is dropped, and a
-/// packet that isn't sent is lost. Both are counted. A full history ends nothing: it is rotated, as
+/// packet that isn't sent is lost. Both are counted, and so is a packet of another group, which is heard and does
+/// nothing. A full history ends nothing: it is rotated, as
 /// [`Pass::rotate`](lg_agent::Pass::rotate) says, and the datagram is heard then. When a Page was heard, the loop sets
 /// `shared.page_heard`.
 ///

@@ -13,6 +13,7 @@ use lg_agent::{AgentName, Pass};
 use lg_counters::{Counters, Noted};
 use lg_detector::{Event, Reply};
 use lg_http::Signal;
+use lg_rules::Name;
 use lg_timing::Moment;
 use lg_view::{Published, Update};
 use std::alloc::Global;
@@ -38,11 +39,13 @@ pub struct Shared<'a, R, C> {
     pub over: &'a AtomicBool,
     /// Whether a Page was heard: then some member's table is known. The receiving loop sets it.
     pub page_heard: &'a AtomicBool,
+    /// The group that the member belongs to, if it has one. What names another is counted.
+    pub group: Option<Name>,
     /// What the loops count for the status server.
     pub counters: &'a Counters,
-    /// Set when a record has changed.
+    /// Set when a record has changed, or a member was forgotten.
     pub changes: &'a ChangeSignal,
-    /// By which the status server is woken when a record has changed, if there is one.
+    /// By which the status server, if there is one, is woken when a record has changed, or a member was forgotten.
     pub signal: Option<&'a Signal>,
     /// How many turns each loop may make, at most [`MAX_TURNS`]. With 0 a loop ends at once, unless it is endless.
     pub bound: u64,
@@ -53,11 +56,12 @@ pub struct Shared<'a, R, C> {
 }
 
 impl<'a, R: Wait, C> Shared<'a, R, C> {
-    /// Adds what a call counts that was answered at a moment by this reply. If a record changed, it wakes those who
-    /// look at the agent for that: the status server, and the watcher of a node that is followed. Allocates nothing.
+    /// Adds what a call counts that was answered at a moment by this reply. If a record changed, or a member was
+    /// forgotten, it wakes those who look at the agent for that: the status server, and the watcher of a node that is
+    /// followed. Allocates nothing.
     pub(crate) fn note(&self, now: Moment, reply: &Reply, noted: &Noted) {
         self.counters.note(now, noted);
-        if reply.changed.len() == 0 {
+        if reply.changed.len() == 0 && reply.forgotten.len() == 0 {
             return;
         }
         self.changes.set(self.rt);

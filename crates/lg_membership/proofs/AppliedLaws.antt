@@ -18,13 +18,14 @@ use Rattle.lg_rules.proofs.KeyOrder.{names_order, cases_key, same_key}
 use Rattle.lg_rules.proofs.OwnLaws.{own_hearing-other}
 use Rattle.lg_rules.proofs.Ranks.{ranked}
 use Rattle.lg_rules.proofs.RowLaws.{row_at-put}
-use Rattle.lg_rules.proofs.Views.{Follows, Changes, Leaves, view_hearing, rises-table}
+use Rattle.lg_rules.proofs.Tables.{rises-table}
+use Rattle.lg_rules.proofs.Views.{Follows, Changes, Leaves, view_hearing}
 use Rattle.lg_timing.specs.declared.config.Config.{Config}
 use Rattle.lg_suspicion.specs.Meaning.Accusers.{accuser_counts, deadline_of}
 use Rattle.lg_membership.specs.declared.applied.Applied.{Applied}
 use Rattle.lg_membership.specs.declared.applied.Deadline.{Deadline}
 use Rattle.lg_membership.specs.declared.origin.Origin.{Origin}
-use Rattle.lg_membership.specs.Meaning.Log.{GroupLog, Said, config, me, own_facts, said, own, table, group_view, live_others, opening_addr}
+use Rattle.lg_membership.specs.Meaning.Log.{GroupLog, Said, config, me, own_facts, own, forgets, table, group_view, live_others, opening_addr}
 use Rattle.lg_membership.specs.Meaning.Suspicions.{SuspectedValue, suspicions, suspected_name}
 use Rattle.lg_membership.specs.Meaning.Applied.{record_in, suspicion_in, is_refuted, IsRecordChange, IsDeadlineChange, IsApplied}
 use Rattle.lg_membership.specs.Support.Changes.{Change, Nothing, Ending, Putting, raised, ended, overriding, accusing}
@@ -39,7 +40,7 @@ use Rattle.lg_membership.proofs.Shown.{shown-applied, view-opened}
 use Rattle.lg_membership.proofs.Chosen.{found_key}
 use Rattle.lg_membership.proofs.FactLaws.{own_name, apply-state}
 use Rattle.lg_membership.proofs.LiveOthers.{presence-own, presence-other, live-said}
-use Rattle.lg_membership.proofs.Removing.{row_at-without}
+use Rattle.lg_rules.proofs.Removing.{row_at-without}
 use Rattle.lg_membership.proofs.SuspicionLaws.{suspicions-own, suspicions-other}
 
 -- The record: it changes to one that overrides it, so to another.
@@ -53,7 +54,7 @@ view_record log m = row_at name_cmp name_of m (view_of (own_record (own log)) (t
 
 differs : (now : ℕ) (origin : Origin) (c : Claim) (log : GroupLog) → changes_record (standing (group_state_of log)) c ≡ true
     → view_record (Said now origin c ∷ log) c.name ≢ view_record log c.name
-differs now origin c log t = elim (view_hearing (me log) (opening_addr (config log)) c (own_facts log)) [
+differs now origin c log t = elim (view_hearing (forgets log) (me log) (opening_addr (config log)) c (own_facts log)) [
   | Changes change ↦ λ same. follows_another change.r (view_record log c.name) change.follows (sym same ∙ change.row)
   | Leaves none same ↦ absurd (false≢true (sym none ∙ t))
 ]
@@ -88,7 +89,7 @@ changed-log now origin c log = elim (held (applied now c s).changed) [
     after = record_in (Said now origin c ∷ log) c.name
 
     shown-said : group_view (Said now origin c ∷ log) ≡ with_found (applied now c s).changed (shown s)
-    shown-said = sym (ap shown (apply-state now origin c log)) ∙ shown-applied now origin c s (rises-table (me log) (said log))
+    shown-said = sym (ap shown (apply-state now origin c log)) ∙ shown-applied now origin c s (rises-table (forgets log) (me log) (own_facts log))
 
 -- The deadline: what a claim changes of the suspicions is about its member.
 abbrev IsAbout : List ℕ → List SuspectedValue → Change → Type 0
@@ -142,8 +143,8 @@ deadline-other : (now : ℕ) (origin : Origin) (c : Claim) (log : GroupLog) → 
     → IsDeadlineChange (suspicion_in log c.name) (suspicion_in (Said now origin c ∷ log) c.name) (applied_other now c (group_state_of log)).deadline
 deadline-other now origin c log other =
     let rows = suspicions log in
-    let ch = change_of (config log) now (table log) rows c in
-    let is = about-change (hearing_of (table log) c) (config log) now (live_in (heard (table log) c)) c rows in
+    let ch = change_of (forgets log) (config log) now (table log) rows c in
+    let is = about-change (hearing_of (forgets log) (table log) c) (config log) now (live_in (heard (forgets log) (table log) c)) c rows in
     subst (λ (after : List SuspectedValue). IsDeadlineChange (suspicion_in log c.name) (row_at name_cmp suspected_name c.name after) (deadline_of_change ch))
     (suspicions-other now origin log c other) (deadline-change c.name rows ch is)
 

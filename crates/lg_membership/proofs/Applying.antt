@@ -14,7 +14,7 @@ pub standing-apply : (now : ℕ) (origin : Origin) (c : Claim) (s : GroupState) 
 unfolding apply_to_group hear_claim
 standing-apply now origin c s = either (is_same name_cmp c.name s.own.name)
   where
-    either : (b : Bool) → standing (cond b (apply_own c s) (apply_other now origin c s)) ≡ cond b (record (standing s) { own = own_heard s.own c }) (record (standing s) { table = heard s.members.table c })
+    either : (b : Bool) → standing (cond b (apply_own c s) (apply_other now origin c s)) ≡ cond b (record (standing s) { own = own_heard s.own c }) (record (standing s) { table = heard s.members.forgets s.members.table c })
     either true = refl
     either false = refl
 

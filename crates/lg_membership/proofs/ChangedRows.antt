@@ -66,7 +66,7 @@ changed_record now c s r is = elim (cases_key names_order c.name s.own.name) [
       let own = own_changed c s.config (own_hearing s.own c) c.incarnation s.own r same (sym (ap (λ (a : Applied). a.changed) (applied-own now c s same)) ∙ is) in
       record { named = own.named; opened = own.opened; changes = changes_record-own (standing s) c same ∙ own.changes })
   | inr other ↦ (
-      let taken = other_changed c s.config (takes s.members.table c) r (sym (ap (λ (a : Applied). a.changed) (applied-other now c s other)) ∙ is) in
+      let taken = other_changed c s.config (takes s.members.forgets s.members.table c) r (sym (ap (λ (a : Applied). a.changed) (applied-other now c s other)) ∙ is) in
       record { named = taken.named; opened = taken.opened; changes = changes_record-other (standing s) c other ∙ taken.changes })
 ]
 
@@ -78,7 +78,7 @@ unchanged_record now c s opened none = elim (cases_key names_order c.name s.own.
       ∙ own_unchanged s.config (own_hearing s.own c) c.incarnation s.own opened (sym (ap (λ (a : Applied). a.changed) (applied-own now c s same)) ∙ none))
   | inr other ↦ (
       changes_record-other (standing s) c other
-      ∙ other_unchanged c s.config (takes s.members.table c) opened (sym (ap (λ (a : Applied). a.changed) (applied-other now c s other)) ∙ none))
+      ∙ other_unchanged c s.config (takes s.members.forgets s.members.table c) opened (sym (ap (λ (a : Applied). a.changed) (applied-other now c s other)) ∙ none))
 ]
 
 -- the names with one more, where its record changed

@@ -8,7 +8,7 @@ use Rattle.lg_rules.specs.Meaning.View.{changed}
 use Rattle.lg_rules.specs.Support.Standing.{standing_view, changed_names}
 use Rattle.lg_rules.proofs.Changes.{changed-heard}
 use Rattle.lg_membership.specs.declared.origin.Origin.{Origin}
-use Rattle.lg_membership.specs.Meaning.Log.{config, me, own_facts, opening_addr}
+use Rattle.lg_membership.specs.Meaning.Log.{config, me, own_facts, forgets, opening_addr}
 use Rattle.lg_membership.specs.Support.Reached.{IsGroupReached}
 use Rattle.lg_membership.specs.Support.State.{GroupState, apply_all_to_group, standing, shown}
 use Rattle.lg_membership.proofs.Applying.{standing-apply_all}
@@ -31,7 +31,7 @@ differing-opened now origin cs s r opened =
     let after = apply_all_to_group now origin cs s in
     let still : is_some after.config ≡ true = ap is_some (config-apply_all now origin cs s) ∙ opened in
     let is = standing-apply_all now origin cs s in
-    let differ = changed-heard (me r.log) (opening_addr (config r.log)) (own_facts r.log) cs (standing s) (ap standing r.is) in
+    let differ = changed-heard (forgets r.log) (me r.log) (opening_addr (config r.log)) (own_facts r.log) cs (standing s) (ap standing r.is) in
     ap (filter (among (changed_names (standing s) cs))) (shown-view after still ∙ ap standing_view is)
     ∙ sym differ
     ∙ (λ i. changed (sym (shown-view s opened) i) (sym (shown-view after still ∙ ap standing_view is) i))

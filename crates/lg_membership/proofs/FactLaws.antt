@@ -2,26 +2,30 @@
 use Rattle.std.proofs.Common.{◌≡◌, ◌≢◌, ℕ, Bool, cond, List, [], ◌∷◌, Some, inl, inr, sym, ◌∙◌, ap}
 use Rattle.lg_rules.specs.declared.claim.Claim.{Claim}
 use Rattle.lg_rules.specs.Meaning.Own.{own_of}
-use Rattle.lg_rules.specs.Meaning.Rows.{name_cmp, is_same}
-use Rattle.lg_rules.specs.Meaning.Table.{known_of}
+use Rattle.lg_rules.specs.Meaning.Claim.{name_of}
+use Rattle.lg_rules.specs.Meaning.Rows.{name_cmp, is_same, row_at, without_row}
+use Rattle.lg_rules.specs.Meaning.Slots.{freed}
+use Rattle.lg_rules.specs.Meaning.Table.{known_of, members_forgot}
 use Rattle.lg_rules.proofs.KeyOrder.{names_order, cases_key, same_key, other_key}
-use Rattle.lg_rules.proofs.OwnLaws.{own-same, own-other, own-leaves, own_of_name}
-use Rattle.lg_rules.proofs.Naming.{heard-names, heard-oneself}
-use Rattle.lg_rules.proofs.Tables.{heard-table}
+use Rattle.lg_rules.proofs.OwnLaws.{own-same, own-other, own-forgot, own-leaves, own_of_name}
+use Rattle.lg_rules.proofs.Naming.{heard-past, heard-oneself, known-leaves, forgot-past}
 use Rattle.lg_timing.specs.declared.config.Config.{Config}
+use Rattle.lg_timing.specs.Meaning.Config.{does_forget}
 use Rattle.lg_membership.specs.declared.origin.Origin.{Origin}
-use Rattle.lg_membership.specs.Meaning.Log.{GroupLog, Opened, Said, Sent, Departed, config, me, own_facts, said, own, opening_addr}
+use Rattle.lg_membership.specs.Meaning.Log.{GroupLog, Opened, Said, Sent, Departed, Forgot, config, me, own_facts, own, forgets, opening_addr}
+use Rattle.lg_rules.proofs.Removing.{without-missing}
+use Rattle.lg_membership.specs.Meaning.Suspicions.{suspicions, suspected_name}
 use Rattle.lg_membership.specs.Meaning.Gossip.{lambda_in, version_sent, put_of_oneself, queue}
 use Rattle.lg_membership.specs.Support.State.{group_state_of, open_group, apply_own, apply_other, apply_to_group}
-use Rattle.lg_membership.specs.Support.State.{leave_group, send_from_group, queue_with}
-use Rattle.lg_membership.proofs.QueueLaws.{waits-log, queue-own, queue-other, queue-sent, queue-left, queue-opened}
-use Rattle.lg_membership.proofs.SuspicionLaws.{suspicions-sent, suspicions-left, suspicions-opened, suspicions-own, suspicions-other}
+use Rattle.lg_membership.specs.Support.State.{leave_group, without_name, forget_from_group, send_from_group, queue_with}
+use Rattle.lg_membership.proofs.QueueLaws.{waits-log, queue-own, queue-other, queue-sent, queue-left, queue-opened, rows-forgot, rows-forgot_own}
+use Rattle.lg_membership.proofs.SuspicionLaws.{suspicions-sent, suspicions-left, suspicions-forgot, row_at-suspicions_own, rises-suspicions, suspicions-opened, suspicions-own, suspicions-other}
 
 pub open-state : (opening : Config) (log : GroupLog) → open_group opening (group_state_of log) ≡ group_state_of (Opened opening ∷ log)
 open-state opening log = λ i. record {
   config = Some opening;
   own = own_of opening.name opening.addr [];
-  members = known_of opening.name [];
+  members = known_of (does_forget opening) opening.name [];
   suspicions = sym (suspicions-opened opening log) i;
   queue = queue-opened opening log i;
 }
@@ -36,7 +40,7 @@ own-applied : (now : ℕ) (origin : Origin) (c : Claim) (log : GroupLog) → c.n
 own-applied now origin c log same = λ i. record {
   config = config log;
   own = sym (own-same (me log) (opening_addr (config log)) c (own_facts log) same) i;
-  members = sym (heard-oneself (me log) (said log) c same) i;
+  members = sym (heard-oneself (forgets log) (me log) (own_facts log) c same) i;
   suspicions = suspicions-own now origin log c same i;
   queue = own-put now origin c log same i;
 }
@@ -45,11 +49,7 @@ other-applied : (now : ℕ) (origin : Origin) (c : Claim) (log : GroupLog) → c
 other-applied now origin c log other = λ i. record {
   config = config log;
   own = sym (own-other (me log) (opening_addr (config log)) c (own_facts log) other) i;
-  members = record {
-    own = me log;
-    table = heard-table (me log) c (said log) other i;
-    names = heard-names (me log) c (said log) other i;
-  };
+  members = heard-past (forgets log) (me log) c (own_facts log) other i;
   suspicions = suspicions-other now origin log c other i;
   queue = queue-other now origin log c other i;
 }
@@ -74,7 +74,7 @@ pub send-state : (taken : List Claim) (log : GroupLog) → send_from_group taken
 send-state taken log = λ i. record {
   config = config log;
   own = own log;
-  members = known_of (me log) (said log);
+  members = known_of (forgets log) (me log) (own_facts log);
   suspicions = suspicions-sent taken log i;
   queue = record { lambda = lambda_in (config log); version = version_sent (config log); rows = queue-sent log taken i };
 }
@@ -83,7 +83,46 @@ pub leave-state : (log : GroupLog) → leave_group (group_state_of log) ≡ grou
 leave-state log = λ i. record {
   config = config log;
   own = sym (own-leaves (me log) (opening_addr (config log)) (own_facts log)) i;
-  members = known_of (me log) (said log);
+  members = sym (known-leaves (forgets log) (me log) (own_facts log)) i;
   suspicions = suspicions-left log i;
   queue = queue-left log i;
 }
+
+-- A name is forgotten: it is this member's own, and nothing changes,
+forget-own : (n : List ℕ) (log : GroupLog) → n ≡ me log → group_state_of log ≡ group_state_of (Forgot n ∷ log)
+forget-own n log e =
+    let suspects =
+    sym (without-missing names_order suspected_name n (suspicions log) (rises-suspicions log) (ap (λ k. row_at name_cmp suspected_name k (suspicions log)) e ∙ row_at-suspicions_own log))
+    ∙ suspicions-forgot n log in
+    λ i. record {
+      config = config log;
+      own = sym (own-forgot (me log) (opening_addr (config log)) n (own_facts log)) i;
+      members = (own_members n log e ∙ forgot-past (forgets log) (me log) n (own_facts log)) i;
+      suspicions = suspects i;
+      queue = record { lambda = lambda_in (config log); version = version_sent (config log); rows = rows-forgot_own n log e i };
+    }
+  where
+    own_members : (n : List ℕ) (log : GroupLog) → n ≡ me log → known_of (forgets log) (me log) (own_facts log) ≡ members_forgot n (known_of (forgets log) (me log) (own_facts log))
+    own_members n log e =
+        let k = known_of (forgets log) (me log) (own_facts log) in
+        ap (λ b. cond b k (record k { table = without_row name_cmp name_of n k.table; names = freed n k.names })) (sym (same_key names_order n (me log) e))
+
+-- or it is another's.
+forget-other : (n : List ℕ) (log : GroupLog) → n ≢ me log → without_name n (group_state_of log) ≡ group_state_of (Forgot n ∷ log)
+forget-other n log d = λ i. record {
+  config = config log;
+  own = sym (own-forgot (me log) (opening_addr (config log)) n (own_facts log)) i;
+  members = forgot-past (forgets log) (me log) n (own_facts log) i;
+  suspicions = suspicions-forgot n log i;
+  queue = record { lambda = lambda_in (config log); version = version_sent (config log); rows = rows-forgot n log d i };
+}
+
+pub forget-state : (n : List ℕ) (log : GroupLog) → forget_from_group n (group_state_of log) ≡ group_state_of (Forgot n ∷ log)
+forget-state n log = elim (cases_key names_order n (me log)) [
+  | inl same ↦ either (same_key names_order n (me log) same) ∙ forget-own n log same
+  | inr other ↦ either (other_key names_order n (me log) other) ∙ forget-other n log other
+]
+  where
+    either : {b : Bool} → is_same name_cmp n (me log) ≡ b
+        → forget_from_group n (group_state_of log) ≡ cond b (group_state_of log) (without_name n (group_state_of log))
+    either e = ap (λ b. cond b (group_state_of log) (without_name n (group_state_of log))) e

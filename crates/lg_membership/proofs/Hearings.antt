@@ -6,7 +6,7 @@ use Rattle.lg_rules.specs.declared.claim.Status.{Status}
 use Rattle.lg_rules.specs.declared.claim.Status.TheVariants.{Alive, Suspect, Failed, Left}
 use Rattle.lg_rules.specs.declared.members.Heard.{Heard}
 use Rattle.lg_rules.specs.declared.members.Heard.TheVariants.{Overrode, Accused, Same, Ignored, NoRoom}
-use Rattle.lg_rules.specs.Meaning.Claim.{accuser_of, name_of}
+use Rattle.lg_rules.specs.Meaning.Claim.{accuser_of, is_gone, name_of}
 use Rattle.lg_rules.specs.Meaning.Rows.{name_cmp, row_at}
 use Rattle.lg_rules.specs.Meaning.Table.{takes, standing_status, standing_hearing, hearing_of, heard, live_in}
 use Rattle.lg_rules.proofs.KeyOrder.{names_order}
@@ -42,18 +42,22 @@ either_standing : (b : Bool) (s t : Status) → is_override (cond b (standing_st
 either_standing true s t = standing_overrides_none s t
 either_standing false s t = refl
 
-standing_override : (c : Claim) (o : Option Claim) → is_override (standing_hearing c o) ≡ false
-standing_override c None = refl
-standing_override c (Some r) = either_standing _ c.status r.status
+either_out : (b : Bool) → is_override (cond b Ignored NoRoom) ≡ false
+either_out true = refl
+either_out false = refl
 
-pub override-takes : (table : List Claim) (c : Claim) → is_override (hearing_of table c) ≡ takes table c
-override-takes table c = elim (cases_Bool (takes table c)) [
-  | inl t ↦ ap (λ b. is_override (cond b Overrode (standing_hearing c (row_at name_cmp name_of c.name table)))) t ∙ sym t
-  | inr f ↦ ap (λ b. is_override (cond b Overrode (standing_hearing c (row_at name_cmp name_of c.name table)))) f ∙ standing_override c _ ∙ sym f
+standing_override : (forgetting : Bool) (c : Claim) (o : Option Claim) → is_override (standing_hearing forgetting c o) ≡ false
+standing_override forgetting c None = either_out (forgetting && is_gone c.status)
+standing_override forgetting c (Some r) = either_standing _ c.status r.status
+
+pub override-takes : (forgetting : Bool) (table : List Claim) (c : Claim) → is_override (hearing_of forgetting table c) ≡ takes forgetting table c
+override-takes forgetting table c = elim (cases_Bool (takes forgetting table c)) [
+  | inl t ↦ ap (λ b. is_override (cond b Overrode (standing_hearing forgetting c (row_at name_cmp name_of c.name table)))) t ∙ sym t
+  | inr f ↦ ap (λ b. is_override (cond b Overrode (standing_hearing forgetting c (row_at name_cmp name_of c.name table)))) f ∙ standing_override forgetting c _ ∙ sym f
 ]
 
-pub overrode-takes : (table : List Claim) (c : Claim) → hearing_of table c ≡ Overrode → takes table c ≡ true
-overrode-takes table c e = sym (override-takes table c) ∙ ap is_override e
+pub overrode-takes : (forgetting : Bool) (table : List Claim) (c : Claim) → hearing_of forgetting table c ≡ Overrode → takes forgetting table c ≡ true
+overrode-takes forgetting table c e = sym (override-takes forgetting table c) ∙ ap is_override e
 
 -- an accuser counts exactly where a deadline is set for it
 either_counts : (b : Bool) (row : SuspectedValue) (accuser : List ℕ) → accuser_counts row.suspicion accuser ≡ b → stands (deadline_of_change (accusing (Some accuser) (Some row))) ≡ b
@@ -74,12 +78,12 @@ confirms-stands Ignored opened now n row c = refl
 confirms-stands NoRoom opened now n row c = refl
 
 -- So a claim is passed on exactly where it is taken or confirms a suspicion.
-pub counts_for : (table : List Claim) (opened : Option Config) (now n : ℕ) (row : Option SuspectedValue) (c : Claim) {h : Heard} {d : Deadline}
-    → h ≡ hearing_of table c → d ≡ deadline_of_change (change_by (hearing_of table c) opened now n row c)
-    → (is_override h || (is_accusation h && stands d)) ≡ (takes table c || (is_accusation (hearing_of table c) && counts_in (accuser_of c.status) row))
-counts_for table opened now n row c hearing deadline =
+pub counts_for : (forgetting : Bool) (table : List Claim) (opened : Option Config) (now n : ℕ) (row : Option SuspectedValue) (c : Claim) {h : Heard} {d : Deadline}
+    → h ≡ hearing_of forgetting table c → d ≡ deadline_of_change (change_by (hearing_of forgetting table c) opened now n row c)
+    → (is_override h || (is_accusation h && stands d)) ≡ (takes forgetting table c || (is_accusation (hearing_of forgetting table c) && counts_in (accuser_of c.status) row))
+counts_for forgetting table opened now n row c hearing deadline =
     (λ i. is_override (hearing i) || (is_accusation (hearing i) && stands (deadline i)))
-    ∙ (λ i. override-takes table c i || confirms-stands (hearing_of table c) opened now n row c i)
+    ∙ (λ i. override-takes forgetting table c i || confirms-stands (hearing_of forgetting table c) opened now n row c i)
 
 -- What a claim changes concerns its member.
 raised_about : (opened : Option Config) (now n : ℕ) (m a : List ℕ) → IsAbout m (raised opened now n m a)
@@ -115,5 +119,5 @@ by_about NoRoom opened now n row c named = tt
 
 pub change_about : (now : ℕ) (c : Claim) (s : GroupState) → IsAbout c.name (change_in now c s)
 change_about now c s =
-    by_about (hearing_of s.members.table c) s.config now (live_in (heard s.members.table c)) (row_about c s.suspicions) c
+    by_about (hearing_of s.members.forgets s.members.table c) s.config now (live_in (heard s.members.forgets s.members.table c)) (row_about c s.suspicions) c
     (found_key names_order suspected_name c.name s.suspicions)

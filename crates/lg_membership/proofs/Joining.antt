@@ -1,5 +1,5 @@
 -- A suspicion takes one more accuser: what that changes of the rows by the names of the slots.
-use Rattle.std.proofs.Common.{◌≡◌, ℕ, List, length, drop, get_or, set, length-set, arith, Some}
+use Rattle.std.proofs.Common.{Option, ◌≡◌, ℕ, List, length, drop, get_or, set, length-set, arith, Some}
 use Rattle.std.proofs.Common.{inl, inr, sym, ◌∙◌, ap, subst}
 use Rattle.std.specs.Prelude.{option_map}
 use Rattle.std.specs.List.{refill}
@@ -22,7 +22,7 @@ refill_same xs ws same =
     take-append-le (length xs) ws (drop (length ws) xs) (omega (arith, same))
     ∙ take_all (length xs) ws (omega (arith, same))
 
-module _ (names : List (List ℕ)) (m a : List ℕ) (rows : List Suspected) (at : ℕ) (d : Suspected)
+module _ (names : List (Option (List ℕ))) (m a : List ℕ) (rows : List Suspected) (at : ℕ) (d : Suspected)
     (has : HasRow name_cmp kept_name m rows at) where
   -- the row that was found
   pub found-by : row_at name_cmp suspected_name m (rows_by names rows) ≡ Some (row_by names (get_or rows at d))
@@ -48,7 +48,7 @@ pub record IsLent (m : List ℕ) (rows read lent : List Suspected) (at : ℕ) : 
   pub same_lent : lent ≡ rows
   pub has : HasRow name_cmp kept_name m read at
 
-module _ (names : List (List ℕ)) (m a : List ℕ) (rows read lent : List Suspected) (at : ℕ) (d : Suspected)
+module _ (names : List (Option (List ℕ))) (m a : List ℕ) (rows read lent : List Suspected) (at : ℕ) (d : Suspected)
     (is : IsLent m rows read lent at) where
   found : HasRow name_cmp kept_name m rows at
   found = subst (λ xs. HasRow name_cmp kept_name m xs at) is.same_read is.has

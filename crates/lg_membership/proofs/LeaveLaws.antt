@@ -13,8 +13,9 @@ use Rattle.lg_rules.proofs.OwnLaws.{own-leaves}
 use Rattle.lg_rules.proofs.RowLaws.{row_at-put}
 use Rattle.lg_rules.proofs.RowsFound.{filter_same, rises-put_row, rows_found}
 use Rattle.lg_rules.proofs.Changes.{claim_itself, same_claim}
+use Rattle.lg_rules.proofs.Tables.{table-leaves}
 use Rattle.lg_timing.specs.declared.config.Config.{Config}
-use Rattle.lg_membership.specs.Meaning.Log.{GroupLog, Departed, config, me, own_facts, own, table, opening_addr, view_in, group_view}
+use Rattle.lg_membership.specs.Meaning.Log.{GroupLog, Departed, config, me, own_facts, own, forgets, table, opening_addr, view_in, group_view}
 use Rattle.lg_membership.specs.Meaning.Gossip.{put_if_leaves}
 use Rattle.lg_membership.specs.Meaning.Applied.{IsRecordChange, IsLeave}
 use Rattle.lg_membership.specs.Support.State.{GroupState, group_state_of, shown, with_found, if_open, leave_group, changed_by_leave}
@@ -57,9 +58,11 @@ leave-log log =
     let at : List ℕ → List Claim → Option Claim = λ m rows. row_at name_cmp name_of m rows in
     let changed = changed_by_leave (group_state_of log) in
     subst (λ (m : List ℕ). IsRecordChange (at m (group_view log)) (at m (group_view (Departed ∷ log))) changed) (own_name log)
-    (subst (λ (later : OwnValue). IsRecordChange (at (own log).name (group_view log)) (at (own log).name (view_in (config log) later (table log))) changed)
+    (subst (λ (later : OwnValue). IsRecordChange (at (own log).name (group_view log)) (at (own log).name (view_in (config log) later (table (Departed ∷ log)))) changed)
     (sym (own-leaves (me log) (opening_addr (config log)) (own_facts log)))
-    (left_record (config log) (own log) (table log) (own log).left refl))
+    (subst (λ (rows : List Claim). IsRecordChange (at (own log).name (group_view log)) (at (own log).name (view_in (config log) (own_left (own log)) rows)) changed)
+    (sym (table-leaves (forgets log) (me log) (own_facts log)))
+    (left_record (config log) (own log) (table log) (own log).left refl)))
 
 -- What is shown once this member left: its own record, if that changed, among what was shown.
 left_shown : (o : Option Config) (oneself : OwnValue) (rows : List Claim) (b : Bool) → oneself.left ≡ b → Rises name_cmp (map name_of rows)

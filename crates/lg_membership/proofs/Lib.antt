@@ -1,4 +1,3 @@
-pub mod Removing
 pub mod KnownLaws
 pub mod QueuedLaws
 pub mod QueueLaws
@@ -6,6 +5,7 @@ pub mod AccusedLaws
 pub mod SuspectedLaws
 pub mod SuspicionLaws
 pub mod FactLaws
+pub mod Forgetting
 pub mod Reaching
 pub mod Applying
 pub mod Rooms

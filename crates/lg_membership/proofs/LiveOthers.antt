@@ -18,13 +18,13 @@ use Rattle.lg_rules.proofs.KeyOrder.{names_order, same_key, other_key, cases_key
 use Rattle.lg_rules.proofs.LiveLaws.{live-put_new, live-put_old}
 use Rattle.lg_rules.proofs.Rises.{above_lower, not_among, among-put, among-cons_same, among-cons_other, among-filter, rises-put, rises-filter, same_members}
 use Rattle.lg_rules.proofs.RowLaws.{row_at-put}
-use Rattle.lg_rules.proofs.Tables.{row_at-table, length_table-le, table-nil, table-own, heard-table, heard_taken, heard_passed, rises-heard}
-use Rattle.lg_rules.proofs.Views.{rises-table}
+use Rattle.lg_rules.proofs.Tables.{rises-table, table-forgot, row_at-table, length_table-le, table-nil, table-own, heard-table, heard_taken, heard_passed, rises-heard}
 use Rattle.lg_timing.specs.declared.config.Config.{Config}
+use Rattle.lg_timing.specs.Meaning.Config.{does_forget}
 use Rattle.lg_membership.specs.declared.applied.Presence.{Presence}
 use Rattle.lg_membership.specs.declared.applied.Presence.TheVariants.{Stays as Remains, Joins, Leaves}
 use Rattle.lg_membership.specs.declared.origin.Origin.{Origin}
-use Rattle.lg_membership.specs.Meaning.Log.{GroupLog, Opened, Said, me, said, table, live, live_names, live_others}
+use Rattle.lg_membership.specs.Meaning.Log.{GroupLog, Opened, Said, Forgot, me, own_facts, forgets, known_others, table, live, live_names, live_others}
 use Rattle.lg_membership.specs.Meaning.Applied.{is_live, presence_of}
 use Rattle.lg_membership.specs.Support.Changes.{presence_heard, presence_by, live_after}
 use Rattle.lg_membership.specs.Support.State.{GroupState, group_state_of, open_group, live_others_in}
@@ -77,11 +77,11 @@ among-live m (r ∷ rows) rise = elim (compared (name_cmp m r.name)) [
 
 -- Names of which one alone may join or leave: which they are then, by whether it was among them and is.
 module _ (m : List ℕ) (before after : List (List ℕ)) (rise : Rises name_cmp before) (rise_then : Rises name_cmp after)
-    (others : (k : List ℕ) → m ≢ k → is_among name_cmp k after ≡ is_among name_cmp k before) where
+    (known_others : (k : List ℕ) → m ≢ k → is_among name_cmp k after ≡ is_among name_cmp k before) where
   as_before : (b : Bool) → is_among name_cmp m before ≡ b → is_among name_cmp m after ≡ b → (k : List ℕ) → is_among name_cmp k after ≡ is_among name_cmp k before
   as_before b was is k = elim (cases_key names_order m k) [
     | inl e ↦ subst (λ n. is_among name_cmp n after ≡ is_among name_cmp n before) e (is ∙ sym was)
-    | inr d ↦ others k d
+    | inr d ↦ known_others k d
   ]
 
   with_it : is_among name_cmp m after ≡ true → (k : List ℕ) → is_among name_cmp k after ≡ is_among name_cmp k (put_key name_cmp m before)
@@ -89,7 +89,7 @@ module _ (m : List ℕ) (before after : List (List ℕ)) (rise : Rises name_cmp 
       let put = among-put names_order k m before in
       elim (cases_key names_order m k) [
         | inl e ↦ subst (λ n. is_among name_cmp n after ≡ true) e is ∙ sym (put ∙ ap (λ b. b || is_among name_cmp k before) (same_key names_order m k e))
-        | inr d ↦ others k d ∙ sym (put ∙ ap (λ b. b || is_among name_cmp k before) (other_key names_order m k d))
+        | inr d ↦ known_others k d ∙ sym (put ∙ ap (λ b. b || is_among name_cmp k before) (other_key names_order m k d))
       ]
 
   without_it : is_among name_cmp m after ≡ false → (k : List ℕ) → is_among name_cmp k after ≡ is_among name_cmp k (without_row name_cmp (λ n. n) m before)
@@ -97,7 +97,7 @@ module _ (m : List ℕ) (before after : List (List ℕ)) (rise : Rises name_cmp 
       let left = among-filter names_order (λ n. not (is_same name_cmp n m)) k before in
       elim (cases_key names_order m k) [
         | inl e ↦ subst (λ n. is_among name_cmp n after ≡ false) e is ∙ sym (left ∙ ap (λ b. not b && is_among name_cmp k before) (same_key names_order k m (sym e)))
-        | inr d ↦ others k d ∙ sym (left ∙ ap (λ b. not b && is_among name_cmp k before) (other_key names_order k m (λ e. d (sym e))))
+        | inr d ↦ known_others k d ∙ sym (left ∙ ap (λ b. not b && is_among name_cmp k before) (other_key names_order k m (λ e. d (sym e))))
       ]
 
   by_presence : (b a : Bool) → is_among name_cmp m before ≡ b → is_among name_cmp m after ≡ a → after ≡ live_after (presence_of b a) m before
@@ -113,19 +113,19 @@ module _ (m : List ℕ) (before after : List (List ℕ)) (rise : Rises name_cmp 
   changed-names = by_presence (is_among name_cmp m before) (is_among name_cmp m after) refl refl
 
 -- A claim about another is heard: no record of another name changes.
-heard-others : (rows : List Claim) (c : Claim) (k : List ℕ) → c.name ≢ k → row_at name_cmp name_of k (heard rows c) ≡ row_at name_cmp name_of k rows
-heard-others rows c k d = elim (cases_Bool (takes rows c)) [
+heard-others : (forgetting : Bool) (rows : List Claim) (c : Claim) (k : List ℕ) → c.name ≢ k → row_at name_cmp name_of k (heard forgetting rows c) ≡ row_at name_cmp name_of k rows
+heard-others forgetting rows c k d = elim (cases_Bool (takes forgetting rows c)) [
   | inl t ↦ (
-      ap (row_at name_cmp name_of k) (heard_taken rows c t)
+      ap (row_at name_cmp name_of k) (heard_taken forgetting rows c t)
       ∙ row_at-put names_order name_of k c rows
       ∙ ap (λ b. cond b (Some c) (row_at name_cmp name_of k rows)) (other_key names_order c.name k d))
-  | inr f ↦ ap (row_at name_cmp name_of k) (heard_passed rows c f)
+  | inr f ↦ ap (row_at name_cmp name_of k) (heard_passed forgetting rows c f)
 ]
 
-heard-live : (rows : List Claim) (c : Claim) → Rises name_cmp (map name_of rows) → (k : List ℕ) → c.name ≢ k
-    → is_among name_cmp k (live_names (heard rows c)) ≡ is_among name_cmp k (live_names rows)
-heard-live rows c rise k d =
-    among-live k (heard rows c) (rises-heard rows c rise) ∙ ap has_live (heard-others rows c k d) ∙ sym (among-live k rows rise)
+heard-live : (forgetting : Bool) (rows : List Claim) (c : Claim) → Rises name_cmp (map name_of rows) → (k : List ℕ) → c.name ≢ k
+    → is_among name_cmp k (live_names (heard forgetting rows c)) ≡ is_among name_cmp k (live_names rows)
+heard-live forgetting rows c rise k d =
+    among-live k (heard forgetting rows c) (rises-heard forgetting rows c rise) ∙ ap has_live (heard-others forgetting rows c k d) ∙ sym (among-live k rows rise)
 
 -- What becomes of its member is told by how many aren't gone before and then.
 abbrev counts : Bool → ℕ
@@ -152,23 +152,23 @@ counted_put c rows = elim (held (row_at name_cmp name_of c.name rows)) [
   | Holding old found ↦ rw found (omega (arith, live-put_old c old rows found, weight-is c.status, weight-is old.status))
 ]
 
-counted : (rows : List Claim) (c : Claim)
-    → live_in (heard rows c) + counts (has_live (row_at name_cmp name_of c.name rows))
-    ≡ counts (has_live (row_at name_cmp name_of c.name (heard rows c))) + live_in rows
-counted rows c = elim (cases_Bool (takes rows c)) [
+counted : (forgetting : Bool) (rows : List Claim) (c : Claim)
+    → live_in (heard forgetting rows c) + counts (has_live (row_at name_cmp name_of c.name rows))
+    ≡ counts (has_live (row_at name_cmp name_of c.name (heard forgetting rows c))) + live_in rows
+counted forgetting rows c = elim (cases_Bool (takes forgetting rows c)) [
   | inl t ↦ (
       let found : row_at name_cmp name_of c.name (put_row name_cmp name_of c rows) ≡ Some c =
       row_at-put names_order name_of c.name c rows ∙ ap (λ b. cond b (Some c) (row_at name_cmp name_of c.name rows)) (same_key names_order c.name c.name refl) in
-      rw (heard_taken rows c t, found) (counted_put c rows))
-  | inr f ↦ rw (heard_passed rows c f) (omega arith)
+      rw (heard_taken forgetting rows c t, found) (counted_put c rows))
+  | inr f ↦ rw (heard_passed forgetting rows c f) (omega arith)
 ]
 
-pub presence-counted : (rows : List Claim) (c : Claim) → Rises name_cmp (map name_of rows)
-    → presence_by (live_in rows) (live_in (heard rows c)) ≡ presence_heard rows c
-presence-counted rows c rise =
+pub presence-counted : (forgetting : Bool) (rows : List Claim) (c : Claim) → Rises name_cmp (map name_of rows)
+    → presence_by (live_in rows) (live_in (heard forgetting rows c)) ≡ presence_heard forgetting rows c
+presence-counted forgetting rows c rise =
     let was = among-live c.name rows rise in
-    let is = among-live c.name (heard rows c) (rises-heard rows c rise) in
-    by_counts (has_live (row_at name_cmp name_of c.name rows)) (has_live (row_at name_cmp name_of c.name (heard rows c))) (live_in rows) (live_in (heard rows c)) (counted rows c)
+    let is = among-live c.name (heard forgetting rows c) (rises-heard forgetting rows c rise) in
+    by_counts (has_live (row_at name_cmp name_of c.name rows)) (has_live (row_at name_cmp name_of c.name (heard forgetting rows c))) (live_in rows) (live_in (heard forgetting rows c)) (counted forgetting rows c)
     ∙ (λ i. presence_of (sym was i) (sym is i))
 
 -- How many aren't gone, oneself included, is one more than the others that haven't.
@@ -177,32 +177,32 @@ live-others log = omega (arith, length-map (filter lives (table log)) name_of, l
 
 -- They are in the order of names,
 pub rises-live_others : (log : GroupLog) → Rises name_cmp (live_others log)
-rises-live_others log = rises-live (table log) (rises-table (me log) (said log))
+rises-live_others log = rises-live (table log) (rises-table (forgets log) (me log) (own_facts log))
 
 -- each is known,
 known_if : (b : Bool) (o : Option Claim) → has_live (cond b o None) ≡ true → b ≡ true
 known_if true o e = refl
 known_if false o e = absurd (false≢true e)
 
-pub live_known : (log : GroupLog) (m : List ℕ) → is_among name_cmp m (live_others log) ≡ true → is_among name_cmp m (roster (me log) (said log)) ≡ true
+pub live_known : (log : GroupLog) (m : List ℕ) → is_among name_cmp m (live_others log) ≡ true → is_among name_cmp m (roster (forgets log) (me log) (own_facts log)) ≡ true
 live_known log m among =
-    let is = among-live m (table log) (rises-table (me log) (said log)) ∙ ap has_live (row_at-table (me log) (said log) m) in
-    known_if (is_among name_cmp m (roster (me log) (said log))) (record_of (said log) m) (sym is ∙ among)
+    let is = among-live m (table log) (rises-table (forgets log) (me log) (own_facts log)) ∙ ap has_live (row_at-table (forgets log) (me log) (own_facts log) m) in
+    known_if (is_among name_cmp m (roster (forgets log) (me log) (own_facts log))) (record_of (forgets log) (me log) (own_facts log) m) (sym is ∙ among)
 
 -- and they are at most 255.
 pub length-live_others : (log : GroupLog) → length (live_others log) ≤ 255
 length-live_others log =
-    omega (arith, length-map (filter lives (table log)) name_of, length-filter lives (table log), count_by-le-length lives (table log), length_table-le (me log) (said log))
+    omega (arith, length-map (filter lives (table log)) name_of, length-filter lives (table log), count_by-le-length lives (table log), length_table-le (forgets log) (me log) (own_facts log))
 
 -- There is none before anything happened, nor once the member was opened.
 pub live-nil : live_others [] ≡ []
-live-nil = ap live_names (table-nil (me []))
+live-nil = ap live_names (table-nil (forgets []) (me []))
 
 pub live-opened : (opening : Config) (log : GroupLog) → live_others (Opened opening ∷ log) ≡ []
-live-opened opening log = ap live_names (table-nil opening.name)
+live-opened opening log = ap live_names (table-nil (does_forget opening) opening.name)
 
 pub live-open : (opening : Config) (s : GroupState) → live_others_in (open_group opening s) ≡ []
-live-open opening s = ap live_names (table-nil opening.name)
+live-open opening s = ap live_names (table-nil (does_forget opening) opening.name)
 
 -- Those of a log's state are those of the log.
 pub live-state : (log : GroupLog) → live_others_in (group_state_of log) ≡ live_others log
@@ -212,10 +212,10 @@ live-state log = refl
 said-others : (now : ℕ) (origin : Origin) (c : Claim) (log : GroupLog) (k : List ℕ) → c.name ≢ k
     → is_among name_cmp k (live_others (Said now origin c ∷ log)) ≡ is_among name_cmp k (live_others log)
 said-others now origin c log k d = elim (cases_key names_order c.name (me log)) [
-  | inl same ↦ ap (λ rows. is_among name_cmp k (live_names rows)) (table-own (me log) c (said log) same)
+  | inl same ↦ ap (λ rows. is_among name_cmp k (live_names rows)) (table-own (forgets log) (me log) c (own_facts log) same)
   | inr other ↦ (
-      ap (λ rows. is_among name_cmp k (live_names rows)) (sym (heard-table (me log) c (said log) other))
-      ∙ heard-live (table log) c (rises-table (me log) (said log)) k d)
+      ap (λ rows. is_among name_cmp k (live_names rows)) (sym (heard-table (forgets log) (me log) c (own_facts log) other))
+      ∙ heard-live (forgets log) (table log) c (rises-table (forgets log) (me log) (own_facts log)) k d)
 ]
 
 abbrev pub presence_said : ℕ → Origin → Claim → GroupLog → Presence
@@ -235,8 +235,25 @@ presence_still false = refl
 pub presence-own : (now : ℕ) (origin : Origin) (c : Claim) (log : GroupLog) → c.name ≡ me log → Remains ≡ presence_said now origin c log
 presence-own now origin c log same =
     presence_still (is_live log c.name)
-    ∙ ap (λ rows. presence_of (is_live log c.name) (is_among name_cmp c.name (live_names rows))) (sym (table-own (me log) c (said log) same))
+    ∙ ap (λ rows. presence_of (is_live log c.name) (is_among name_cmp c.name (live_names rows))) (sym (table-own (forgets log) (me log) c (own_facts log) same))
 
-pub presence-other : (now : ℕ) (origin : Origin) (c : Claim) (log : GroupLog) → c.name ≢ me log → presence_heard (table log) c ≡ presence_said now origin c log
+pub presence-other : (now : ℕ) (origin : Origin) (c : Claim) (log : GroupLog) → c.name ≢ me log → presence_heard (forgets log) (table log) c ≡ presence_said now origin c log
 presence-other now origin c log other =
-    ap (λ rows. presence_of (is_live log c.name) (is_among name_cmp c.name (live_names rows))) (heard-table (me log) c (said log) other)
+    ap (λ rows. presence_of (is_live log c.name) (is_among name_cmp c.name (live_names rows))) (heard-table (forgets log) (me log) c (own_facts log) other)
+
+-- Once a name is forgotten, all others of them are left.
+live-without : (n : List ℕ) (rows : List Claim) → live_names (without_row name_cmp name_of n rows) ≡ without_row name_cmp (λ k. k) n (live_names rows)
+live-without n [] = refl
+live-without n (r ∷ rows) = elim (cases_Bool (is_same name_cmp r.name n)) [
+  | inl t ↦ elim (cases_Bool (lives r)) [
+    | inl live ↦ rw (t, live, t) (live-without n rows)
+    | inr gone ↦ rw (t, gone) (live-without n rows)
+  ]
+  | inr f ↦ elim (cases_Bool (lives r)) [
+    | inl live ↦ rw (f, live, f) (ap (λ ns. r.name ∷ ns) (live-without n rows))
+    | inr gone ↦ rw (f, gone) (live-without n rows)
+  ]
+]
+
+pub live-forgot : (n : List ℕ) (log : GroupLog) → live_others (Forgot n ∷ log) ≡ without_row name_cmp (λ k. k) n (live_others log)
+live-forgot n log = ap live_names (sym (table-forgot (forgets log) (me log) n (own_facts log))) ∙ live-without n (table log)

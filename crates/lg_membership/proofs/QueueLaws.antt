@@ -4,28 +4,28 @@ use Rattle.std.specs.Prelude.{filter_map, option_map}
 use Rattle.std.proofs.lemmas.Bool.{cases_Bool}
 use Rattle.lg_rules.specs.declared.claim.Claim.{Claim}
 use Rattle.lg_rules.specs.Meaning.Own.{own_of}
-use Rattle.lg_rules.specs.Meaning.Rows.{name_cmp, is_among, put_key, put_row, row_at}
+use Rattle.lg_rules.specs.Meaning.Rows.{name_cmp, is_among, put_key, put_row, row_at, without_row}
 use Rattle.lg_rules.specs.Meaning.Table.{roster}
 use Rattle.lg_rules.proofs.Cases.{Missing, Holding, held}
 use Rattle.lg_rules.proofs.KeyOrder.{names_order}
 use Rattle.lg_rules.proofs.OwnLaws.{own_of_name}
 use Rattle.lg_rules.proofs.Rises.{put-there}
 use Rattle.lg_rules.proofs.Roster.{rises-roster}
-use Rattle.lg_rules.proofs.RowLaws.{rows_equal, rows-put, rows-skip, row_at-rows}
+use Rattle.lg_rules.proofs.RowLaws.{rows_equal, rows-put, rows-skip, rows-less, rows-without, row_at-rows}
 use Rattle.lg_rules.proofs.Tables.{Taken, Unbeaten, Out, heard_cases}
 use Rattle.lg_timing.specs.declared.config.Config.{Config}
-use Rattle.lg_timing.specs.Meaning.Config.{version_of}
+use Rattle.lg_timing.specs.Meaning.Config.{version_of, does_forget}
 use Rattle.lg_gossip.specs.declared.queued.Queued.{Queued}
 use Rattle.lg_gossip.specs.Meaning.Queue.{fresh, is_below, may_send_about, queued_name, sent_once}
 use Rattle.lg_membership.specs.declared.origin.Origin.{Origin}
-use Rattle.lg_membership.specs.Meaning.Log.{GroupLog, Opened, Said, Sent, Departed, config, me, own_facts, said, own, opening_addr, table, known, live}
+use Rattle.lg_membership.specs.Meaning.Log.{GroupLog, Opened, Said, Sent, Departed, Forgot, config, me, own_facts, own, opening_addr, forgets, table, known, live}
 use Rattle.lg_membership.specs.Meaning.Suspicions.{suspicions}
 use Rattle.lg_membership.specs.Meaning.Gossip.{lambda_in, version_sent, own_arrival, put_of_other, put_of_leave, queued_by}
 use Rattle.lg_membership.specs.Meaning.Gossip.{send_limit_after, own_waits, queued, queue_rows, queue}
 use Rattle.lg_membership.specs.Support.State.{queue_with, blank_queue, opened_queue}
-use Rattle.lg_membership.proofs.KnownLaws.{rises-known, own_known, known-own, known-taken, known-passed}
+use Rattle.lg_membership.proofs.KnownLaws.{rises-known, own_known, known-own, known-taken, known-passed, known-left, known-forgot, known-forgot_own}
 use Rattle.lg_membership.proofs.QueuedLaws.{put_after, put_about_own, arrival_name, leave_name, queued-sent, queued-left, put_by-own, put_by-other, put_by-grows}
-use Rattle.lg_membership.proofs.QueuedLaws.{queued_keyed, queued_unknown, by-put, by-put_other, queued-put, queued-put_other, queued-no_put}
+use Rattle.lg_membership.proofs.QueuedLaws.{queued-forgotten, queued-kept, queued-own_kept, queued_keyed, queued_unknown, by-put, by-put_other, queued-put, queued-put_other, queued-no_put}
 
 abbrev names_after : ℕ → Origin → GroupLog → Claim → List (List ℕ)
 names_after now origin log c = known (Said now origin c ∷ log)
@@ -74,12 +74,12 @@ queue-own now origin log c same =
     queue-by now origin log c put (λ e. rows-stay now origin log c (says ∙ e) (known-own now origin log c same)) (λ p e. rows-queued now origin log c p (says ∙ e))
 
 -- the queue once a claim about another is said
-pub queue-other : (now : ℕ) (origin : Origin) (log : GroupLog) (c : Claim) → c.name ≢ me log → queue_with (put_of_other origin (table log) (suspicions log) c) (queue log) ≡ queue (Said now origin c ∷ log)
+pub queue-other : (now : ℕ) (origin : Origin) (log : GroupLog) (c : Claim) → c.name ≢ me log → queue_with (put_of_other origin (forgets log) (table log) (suspicions log) c) (queue log) ≡ queue (Said now origin c ∷ log)
 queue-other now origin log c other =
-    let put = put_of_other origin (table log) (suspicions log) c in
+    let put = put_of_other origin (forgets log) (table log) (suspicions log) c in
     let says = put_by-other origin log c other in
     let joined : (p : Claim) → put ≡ Some p → put_row name_cmp queued_name (fresh (version_sent (config log)) p) (queue_rows log) ≡ queue_rows (Said now origin c ∷ log) = λ p e. rows-queued now origin log c p (says ∙ e) in
-    elim (heard_cases (me log) c (said log) other) [
+    elim (heard_cases (forgets log) (me log) c (own_facts log) other) [
       | Taken t ↦ queue-by now origin log c put (λ e. rows-join now origin log c (says ∙ e) (known-taken now origin log c t)) joined
       | Unbeaten k ↦ queue-by now origin log c put (λ e. rows-stay now origin log c (says ∙ e) (known-passed now origin log c k.names)) joined
       | Out o ↦ queue-by now origin log c put (λ e. rows-stay now origin log c (says ∙ e) (known-passed now origin log c o.names)) joined
@@ -109,10 +109,13 @@ rows-left log p put =
     (λ n other. queued-left log (Some p) n put ∙ by-put_other v p n (queued log n) other)
     ∙ ap (λ n. filter_map (queued (Departed ∷ log)) (put_key name_cmp n (known log))) (leave_name log p put)
     ∙ ap (filter_map (queued (Departed ∷ log))) (put-there names_order (me log) (known log) (rises-known log) (own_known log))
+    ∙ ap (filter_map (queued (Departed ∷ log))) (sym (known-left log))
 
 no_rows-left : (log : GroupLog) → put_of_leave (own log) ≡ None → queue_rows log ≡ queue_rows (Departed ∷ log)
 unfolding queue_rows
-no_rows-left log none = sym (rows_equal (queued log) (queued (Departed ∷ log)) (known log) (λ n. queued-left log None n none))
+no_rows-left log none =
+    sym (rows_equal (queued log) (queued (Departed ∷ log)) (known log) (λ n. queued-left log None n none))
+    ∙ ap (filter_map (queued (Departed ∷ log))) (sym (known-left log))
 
 queue-leaves : (log : GroupLog) (o : Option Claim) → put_of_leave (own log) ≡ o → queue_with o (queue log) ≡ queue (Departed ∷ log)
 queue-leaves log None is = λ i. record { lambda = lambda_in (config log); version = version_sent (config log); rows = no_rows-left log is i }
@@ -120,6 +123,22 @@ queue-leaves log (Some p) is = λ i. record { lambda = lambda_in (config log); v
 
 pub queue-left : (log : GroupLog) → queue_with (put_of_leave (own log)) (queue log) ≡ queue (Departed ∷ log)
 queue-left log = queue-leaves log (put_of_leave (own log)) refl
+
+-- the queue once a name was forgotten
+pub rows-forgot : (n : List ℕ) (log : GroupLog) → n ≢ me log → without_row name_cmp queued_name n (queue_rows log) ≡ queue_rows (Forgot n ∷ log)
+unfolding queue_rows
+rows-forgot n log d =
+    let f = queued log in
+    let g = queued (Forgot n ∷ log) in
+    rows-without names_order queued_name f g n (known log) (queued_keyed log) (queued-forgotten n log d) (λ m other. queued-kept n log m (λ e. other (sym e)))
+    ∙ sym (rows-less names_order g n (known log) (queued-forgotten n log d))
+    ∙ ap (filter_map g) (sym (known-forgot n log d))
+
+pub rows-forgot_own : (n : List ℕ) (log : GroupLog) → n ≡ me log → queue_rows log ≡ queue_rows (Forgot n ∷ log)
+unfolding queue_rows
+rows-forgot_own n log e =
+    sym (rows_equal (queued log) (queued (Forgot n ∷ log)) (known log) (λ m. queued-own_kept n log m e))
+    ∙ ap (filter_map (queued (Forgot n ∷ log))) (sym (known-forgot_own n log e))
 
 -- Whether this member's own record still waits, by the queue.
 own_row : (log : GroupLog) → row_at name_cmp queued_name (own log).name (queue_rows log) ≡ queued log (me log)
@@ -148,9 +167,9 @@ module _ (opening : Config) (log : GroupLog) where
   unfolding queue_rows
   rows-opened p is =
       let none : List ℕ → Option Queued = λ n. None in
-      let names = roster opening.name [] in
+      let names = roster (does_forget opening) opening.name [] in
       ap (put_row name_cmp queued_name (fresh (version_of opening) p)) (sym (none_rows none names (λ n. refl)))
-      ∙ rows-put names_order queued_name none (queued (Opened opening ∷ log)) (fresh (version_of opening) p) names (rises-roster opening.name [])
+      ∙ rows-put names_order queued_name none (queued (Opened opening ∷ log)) (fresh (version_of opening) p) names (rises-roster (does_forget opening) opening.name [])
       (λ n r bad. absurd cc)
       (queued-opened (Some p) is p.name ∙ by-put (version_of opening) p None)
       (λ n other. queued-opened (Some p) is n ∙ by-put_other (version_of opening) p n None other)

@@ -1,12 +1,13 @@
 -- What is queued about one name, when a claim is said.
-use Rattle.std.proofs.Common.{◌≡◌, ◌≢◌, ℕ, Bool, true, false, ◌||◌, cond, List, [], ◌∷◌, Option, Some, None, inl, inr, refl, sym, ◌∙◌, ap}
+use Rattle.std.proofs.Common.{◌≡◌, ◌≢◌, ℕ, Bool, true, false, not, ◌&&◌, ◌||◌, cond, List, [], ◌∷◌, Option, Some, None, inl, inr, refl, sym, ◌∙◌, ap}
 use Rattle.std.specs.Prelude.{option_map}
 use Rattle.std.proofs.lemmas.Bool.{cases_Bool}
-use Rattle.lg_rules.specs.Meaning.Claim.{name_of}
+use Rattle.lg_rules.specs.Meaning.Claim.{accuser_of, is_gone, name_of}
 use Rattle.lg_rules.specs.declared.claim.Claim.{Claim}
 use Rattle.lg_rules.specs.declared.own.OwnHeard.{OwnHeard}
 use Rattle.lg_rules.specs.declared.own.OwnHeard.TheVariants.{Refuted, Raised, Ousted, Ignored}
 use Rattle.lg_rules.specs.declared.version.Version.{Version}
+use Rattle.lg_rules.specs.declared.members.Heard.TheVariants.{Ignored as Unheeded, NoRoom}
 use Rattle.lg_rules.specs.Meaning.Own.{OwnValue, own_hearing, own_heard, own_left, own_of, own_record}
 use Rattle.lg_rules.specs.Meaning.Rows.{name_cmp, is_same, is_among, put_key, row_at}
 use Rattle.lg_rules.specs.Meaning.Table.{takes, roster}
@@ -23,11 +24,11 @@ use Rattle.lg_gossip.specs.declared.queued.Queued.{Queued}
 use Rattle.lg_gossip.specs.Meaning.Queue.{fresh, queued_name, sent_once}
 use Rattle.lg_membership.specs.declared.origin.Origin.{Origin}
 use Rattle.lg_membership.specs.declared.origin.Origin.TheVariants.{Seed, Group}
-use Rattle.lg_membership.specs.Meaning.Log.{GroupLog, Opened, Said, Sent, Departed, config, me, own_facts, said, own, table, known}
-use Rattle.lg_membership.specs.Meaning.Suspicions.{SuspectedValue, suspicions, confirms}
+use Rattle.lg_membership.specs.Meaning.Log.{GroupLog, Opened, Said, Sent, Departed, Forgot, config, me, own_facts, own, forgets, table, known, loses}
+use Rattle.lg_membership.specs.Meaning.Suspicions.{SuspectedValue, suspicions, suspected_name, is_accusation, counts_in, confirms}
 use Rattle.lg_membership.specs.Meaning.Gossip.{tells_news, answers_doubt, own_arrival, put_of_own, put_if_answered, put_of_oneself}
 use Rattle.lg_membership.specs.Meaning.Gossip.{put_if, put_of_other, put_by, put_if_leaves, put_of_leave, queued_by, version_sent, queued, own_waits}
-use Rattle.lg_membership.proofs.KnownLaws.{rises-known, own_known, known-own, known-taken, known-passed, known-grows, roster_known}
+use Rattle.lg_membership.proofs.KnownLaws.{rises-known, own_known, known-own, known-taken, known-passed, known-grows, known-left, known-kept, roster_known}
 
 -- What a claim puts into the queue, if it is said after a log: about oneself or another.
 abbrev pub put_after : Origin → GroupLog → Claim → Option Claim
@@ -39,12 +40,12 @@ put_about_own log c = put_of_oneself (version_sent (config log)) (own_waits log)
 pub put_by-own : (origin : Origin) (log : GroupLog) (c : Claim) → c.name ≡ me log → put_after origin log c ≡ put_about_own log c
 unfolding put_by
 put_by-own origin log c same =
-    ap (λ b. cond b (put_about_own log c) (put_of_other origin (table log) (suspicions log) c)) (same_key names_order c.name (me log) same)
+    ap (λ b. cond b (put_about_own log c) (put_of_other origin (forgets log) (table log) (suspicions log) c)) (same_key names_order c.name (me log) same)
 
-pub put_by-other : (origin : Origin) (log : GroupLog) (c : Claim) → c.name ≢ me log → put_after origin log c ≡ put_of_other origin (table log) (suspicions log) c
+pub put_by-other : (origin : Origin) (log : GroupLog) (c : Claim) → c.name ≢ me log → put_after origin log c ≡ put_of_other origin (forgets log) (table log) (suspicions log) c
 unfolding put_by
 put_by-other origin log c other =
-    ap (λ b. cond b (put_about_own log c) (put_of_other origin (table log) (suspicions log) c)) (other_key names_order c.name (me log) other)
+    ap (λ b. cond b (put_about_own log c) (put_of_other origin (forgets log) (table log) (suspicions log) c)) (other_key names_order c.name (me log) other)
 
 put_own_name : (o : OwnHeard) (oneself : OwnValue) (p : Claim) → put_of_own o oneself ≡ Some p → p.name ≡ oneself.name
 put_own_name Refuted oneself p e = ap (λ (r : Claim). r.name) (sym (held_once (own_record oneself) p e))
@@ -107,6 +108,10 @@ queued_keyed (Said now origin c ∷ log) m r e =
 queued_keyed (Sent taken ∷ log) m r e = sent_name taken (queued log m) m r (queued_keyed log m) e
 queued_keyed (Departed ∷ log) m r e =
     queued_by_name (version_sent (config log)) (put_of_leave (own log)) (queued log m) m r (queued_keyed log m r) e
+queued_keyed (Forgot n ∷ log) m r e = elim (cases_Bool (loses log n m)) [
+  | inl t ↦ no_row r (queued_name r ≡ m) (rw t at e)
+  | inr f ↦ queued_keyed log m r (rw f at e)
+]
 
 -- What a claim about another puts is the claim.
 if_is : (origin : Origin) (b : Bool) (c p : Claim) → put_if origin b c ≡ Some p → c ≡ p
@@ -114,33 +119,40 @@ if_is Seed b c p e = absurd cc
 if_is Group true c p e = held_once c p e
 if_is Group false c p e = absurd cc
 
-pub put_is : (origin : Origin) (rows : List Claim) (suspects : List SuspectedValue) (c p : Claim) → put_of_other origin rows suspects c ≡ Some p → c ≡ p
-put_is origin rows suspects c p e = if_is origin (takes rows c || confirms rows suspects c) c p e
+pub put_is : (origin : Origin) (forgetting : Bool) (rows : List Claim) (suspects : List SuspectedValue) (c p : Claim) → put_of_other origin forgetting rows suspects c ≡ Some p → c ≡ p
+put_is origin forgetting rows suspects c p e = if_is origin (takes forgetting rows c || confirms forgetting rows suspects c) c p e
 
 if_not : (origin : Origin) (c : Claim) → put_if origin false c ≡ None
 if_not Seed c = refl
 if_not Group c = refl
 
-put_none : (origin : Origin) (rows : List Claim) (suspects : List SuspectedValue) (c : Claim) → (takes rows c || confirms rows suspects c) ≡ false → put_of_other origin rows suspects c ≡ None
-put_none origin rows suspects c test = ap (λ b. put_if origin b c) test ∙ if_not origin c
+put_none : (origin : Origin) (forgetting : Bool) (rows : List Claim) (suspects : List SuspectedValue) (c : Claim) → (takes forgetting rows c || confirms forgetting rows suspects c) ≡ false
+    → put_of_other origin forgetting rows suspects c ≡ None
+put_none origin forgetting rows suspects c test = ap (λ b. put_if origin b c) test ∙ if_not origin c
 
--- A claim about a name for which there is no room puts nothing.
-out_none : (origin : Origin) (rows : List Claim) (suspects : List SuspectedValue) (c : Claim) → takes rows c ≡ false → row_at name_cmp name_of c.name rows ≡ None → put_of_other origin rows suspects c ≡ None
-out_none origin rows suspects c test missing = put_none origin rows suspects c (rw (test, missing) refl)
+-- A claim about a name that isn't let in puts nothing.
+no_accusation : (b d : Bool) → (is_accusation (cond b Unheeded NoRoom) && d) ≡ false
+no_accusation true d = refl
+no_accusation false d = refl
 
-pub row_out : (log : GroupLog) (m : List ℕ) → is_among name_cmp m (roster (me log) (said log)) ≡ false → row_at name_cmp name_of m (table log) ≡ None
-row_out log m out = row_at-table (me log) (said log) m ∙ ap (λ b. cond b (record_of (said log) m) None) out
+out_none : (origin : Origin) (forgetting : Bool) (rows : List Claim) (suspects : List SuspectedValue) (c : Claim) → takes forgetting rows c ≡ false → row_at name_cmp name_of c.name rows ≡ None
+    → put_of_other origin forgetting rows suspects c ≡ None
+out_none origin forgetting rows suspects c test missing =
+    put_none origin forgetting rows suspects c (rw (test, missing) (no_accusation (forgetting && is_gone c.status) (counts_in (accuser_of c.status) (row_at name_cmp suspected_name c.name suspects))))
+
+pub row_out : (log : GroupLog) (m : List ℕ) → is_among name_cmp m (roster (forgets log) (me log) (own_facts log)) ≡ false → row_at name_cmp name_of m (table log) ≡ None
+row_out log m out = row_at-table (forgets log) (me log) (own_facts log) m ∙ ap (λ b. cond b (record_of (forgets log) (me log) (own_facts log) m) None) out
 
 -- What is put is about oneself or about the claim's member: the names that are known then are those before and this one.
-put_other_name : (now : ℕ) (origin : Origin) (log : GroupLog) (c p : Claim) → put_of_other origin (table log) (suspicions log) c ≡ Some p → c.name ≢ me log
+put_other_name : (now : ℕ) (origin : Origin) (log : GroupLog) (c p : Claim) → put_of_other origin (forgets log) (table log) (suspicions log) c ≡ Some p → c.name ≢ me log
     → known (Said now origin c ∷ log) ≡ put_key name_cmp p.name (known log)
 put_other_name now origin log c p e other =
-    let name = ap (λ (q : Claim). put_key name_cmp q.name (known log)) (put_is origin (table log) (suspicions log) c p e) in
-    elim (heard_cases (me log) c (said log) other) [
+    let name = ap (λ (q : Claim). put_key name_cmp q.name (known log)) (put_is origin (forgets log) (table log) (suspicions log) c p e) in
+    elim (heard_cases (forgets log) (me log) c (own_facts log) other) [
       | Taken t ↦ known-taken now origin log c t ∙ name
       | Unbeaten k ↦ known-passed now origin log c k.names ∙ sym (put-there names_order c.name (known log) (rises-known log) (roster_known log c.name k.among)) ∙ name
       | Out o ↦ (
-          let bad : None ≡ Some p = sym (out_none origin (table log) (suspicions log) c o.taken (row_out log c.name o.out)) ∙ e in
+          let bad : None ≡ Some p = sym (out_none origin (forgets log) (table log) (suspicions log) c o.taken (row_out log c.name o.out)) ∙ e in
           absurd cc)
     ]
 
@@ -183,8 +195,13 @@ queued_known (Said now origin c ∷ log) m q e =
     (put_by_known now origin log c) (λ before. known-grows now origin log c m (queued_known log m q before)) e
 queued_known (Sent taken ∷ log) m q e = sent_known taken (queued log m) (is_among name_cmp m (known log) ≡ true) q (queued_known log m) e
 queued_known (Departed ∷ log) m q e =
-    queued_by_known (version_sent (config log)) (put_of_leave (own log)) (queued log m) m q (known log)
+    ap (is_among name_cmp m) (known-left log)
+    ∙ queued_by_known (version_sent (config log)) (put_of_leave (own log)) (queued log m) m q (known log)
     (λ p is. ap (λ n. is_among name_cmp n (known log)) (leave_name log p is) ∙ own_known log) (queued_known log m q) e
+queued_known (Forgot n ∷ log) m q e = elim (cases_Bool (loses log n m)) [
+  | inl t ↦ no_row q (is_among name_cmp m (known (Forgot n ∷ log)) ≡ true) (rw t at e)
+  | inr f ↦ known-kept n log m f (queued_known log m q (rw f at e))
+]
 
 -- so nothing is queued about a name that isn't known
 pub queued_unknown : (log : GroupLog) (m : List ℕ) → is_among name_cmp m (known log) ≡ false → queued log m ≡ None
@@ -223,3 +240,22 @@ queued-sent log taken m = refl
 pub queued-left : (log : GroupLog) (o : Option Claim) (n : List ℕ) → put_of_leave (own log) ≡ o → queued (Departed ∷ log) n ≡ queued_by (version_sent (config log)) o n (queued log n)
 unfolding queued
 queued-left log o n e = ap (λ put. queued_by (version_sent (config log)) put n (queued log n)) e
+
+-- Once a name is forgotten, nothing is queued about it; about all others, and about oneself, nothing changes.
+pub queued-forgotten : (n : List ℕ) (log : GroupLog) → n ≢ me log → queued (Forgot n ∷ log) n ≡ None
+unfolding queued
+queued-forgotten n log d = λ i. cond (same_key names_order n n refl i && not (other_key names_order n (me log) d i)) None (queued log n)
+
+pub queued-kept : (n : List ℕ) (log : GroupLog) (m : List ℕ) → n ≢ m → queued (Forgot n ∷ log) m ≡ queued log m
+unfolding queued
+queued-kept n log m d = ap (λ b. cond (b && not (is_same name_cmp n (me log))) None (queued log m)) (other_key names_order n m d)
+
+pub queued-own_kept : (n : List ℕ) (log : GroupLog) (m : List ℕ) → n ≡ me log → queued (Forgot n ∷ log) m ≡ queued log m
+unfolding queued
+queued-own_kept n log m e =
+    ap (λ b. cond (is_same name_cmp n m && not b) None (queued log m)) (same_key names_order n (me log) e)
+    ∙ ap (λ b. cond b None (queued log m)) (never (is_same name_cmp n m))
+  where
+    never : (b : Bool) → (b && false) ≡ false
+    never true = refl
+    never false = refl

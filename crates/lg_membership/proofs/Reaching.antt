@@ -1,5 +1,6 @@
 -- What each fact makes of a state that some log has is such a state again.
-use Rattle.std.proofs.Common.{◌≡◌, ◌≢◌, ℕ, Bool, true, false, cond, List, [], ◌∷◌, refl, sym, ◌∙◌, ap, subst}
+use Rattle.std.proofs.Common.{◌≡◌, ◌≢◌, ℕ, Bool, true, false, cond, List, [], ◌∷◌, inl, inr, refl, sym, ◌∙◌, ap, subst}
+use Rattle.std.proofs.lemmas.Bool.{cases_Bool}
 use Rattle.lg_rules.specs.declared.claim.Claim.{Claim}
 use Rattle.lg_rules.specs.Meaning.Rows.{name_cmp, is_same}
 use Rattle.lg_rules.proofs.KeyOrder.{names_order, same_key, other_key}
@@ -7,11 +8,11 @@ use Rattle.lg_timing.specs.declared.config.Config.{Config}
 use Rattle.lg_timing.specs.Meaning.Config.{IsChecked}
 use Rattle.lg_membership.specs.declared.origin.Origin.{Origin}
 use Rattle.lg_membership.specs.declared.origin.Origin.TheVariants.{Group}
-use Rattle.lg_membership.specs.Meaning.Log.{Opened, Said, Sent, Departed}
+use Rattle.lg_membership.specs.Meaning.Log.{Opened, Said, Sent, Departed, Forgot}
 use Rattle.lg_membership.specs.Support.State.{GroupState, open_group, apply_own, apply_other, apply_to_group}
-use Rattle.lg_membership.specs.Support.State.{apply_all_to_group, leave_group, send_from_group}
+use Rattle.lg_membership.specs.Support.State.{apply_all_to_group, leave_group, forget_from_group, send_from_group}
 use Rattle.lg_membership.specs.Support.Reached.{IsGood, IsGroupReached}
-use Rattle.lg_membership.proofs.FactLaws.{open-state, apply-state, send-state, leave-state}
+use Rattle.lg_membership.proofs.FactLaws.{open-state, apply-state, send-state, leave-state, forget-state}
 
 pub config-apply : (now : ℕ) (origin : Origin) (c : Claim) (s : GroupState) → (apply_to_group now origin c s).config ≡ s.config
 unfolding apply_to_group
@@ -69,4 +70,17 @@ reached-leave s after e r = record {
   log = Departed ∷ r.log;
   is = e ∙ ap leave_group r.is ∙ leave-state r.log;
   good = good_still s after (ap (λ (t : GroupState). t.config) e) r.good;
+}
+
+config-forget : (n : List ℕ) (s : GroupState) → (forget_from_group n s).config ≡ s.config
+config-forget n s = elim (cases_Bool (is_same name_cmp n s.members.own)) [
+  | inl t ↦ rw t refl
+  | inr f ↦ rw f refl
+]
+
+pub reached-forget : (n : List ℕ) (s after : GroupState) → after ≡ forget_from_group n s → IsGroupReached s → IsGroupReached after
+reached-forget n s after e r = record {
+  log = Forgot n ∷ r.log;
+  is = e ∙ ap (forget_from_group n) r.is ∙ forget-state n r.log;
+  good = good_still s after (ap (λ (t : GroupState). t.config) e ∙ config-forget n s) r.good;
 }

@@ -7,13 +7,12 @@ use Rattle.lg_rules.proofs.Rises.{put-there}
 use Rattle.lg_rules.proofs.RowLaws.{rows_room}
 use Rattle.lg_rules.specs.Meaning.Claim.{name_of}
 use Rattle.lg_rules.specs.Meaning.Table.{record_of, takes}
-use Rattle.lg_rules.proofs.Views.{rises-table}
-use Rattle.lg_rules.proofs.Tables.{Taken, Unbeaten, Out, heard_cases, row_at-table, length_table-le}
+use Rattle.lg_rules.proofs.Tables.{rises-table, Taken, Unbeaten, Out, heard_cases, row_at-table, length_table-le}
 use Rattle.lg_rules.proofs.Roster.{own_unknown}
 use Rattle.lg_gossip.specs.Meaning.Queue.{queued_name}
 use Rattle.lg_membership.specs.declared.origin.Origin.{Origin}
 use Rattle.lg_membership.specs.declared.origin.Origin.TheVariants.{Group}
-use Rattle.lg_membership.specs.Meaning.Log.{GroupLog, Said, config, me, said, own, table, known}
+use Rattle.lg_membership.specs.Meaning.Log.{GroupLog, Said, config, me, own_facts, own, forgets, table, known}
 use Rattle.lg_membership.specs.Meaning.Suspicions.{suspicions, suspected_name}
 use Rattle.lg_membership.specs.Meaning.Gossip.{version_sent, put_of_oneself, put_of_other, put_of_leave, put_by, queued, queue_rows, queue}
 use Rattle.lg_membership.specs.Support.Reached.{IsGroupReached}
@@ -39,7 +38,7 @@ has_place (Some p) log places = places p refl
 put_in-log : (origin : Origin) (log : GroupLog) (c : Claim) → put_in origin c (group_state_of log) ≡ put_after origin log c
 unfolding put_by
 put_in-log origin log c =
-    let put = put_of_other origin (table log) (suspicions log) c in
+    let put = put_of_other origin (forgets log) (table log) (suspicions log) c in
     ap (λ n. cond (is_same name_cmp c.name n) (own_put_in c (group_state_of log)) put) (own_name log)
     ∙ ap (λ w. cond (is_same name_cmp c.name (me log)) (put_of_oneself (version_sent (config log)) w (own log) c) put) (waits-log log)
 
@@ -53,8 +52,8 @@ place_left log p put missing =
     (subst (λ ns. length ns ≤ 256) (sym names) (length-known log)) missing
 
 -- a claim that is taken has a seat for the suspicion of its member
-seat_at : (c : Claim) (log : GroupLog) → c.name ≢ me log → takes (table log) c ≡ true → row_at name_cmp suspected_name c.name (suspicions log) ≡ None → length (suspicions log) < 255
-seat_at c log other taken = elim (heard_cases (me log) c (said log) other) [
+seat_at : (c : Claim) (log : GroupLog) → c.name ≢ me log → takes (forgets log) (table log) c ≡ true → row_at name_cmp suspected_name c.name (suspicions log) ≡ None → length (suspicions log) < 255
+seat_at c log other taken = elim (heard_cases (forgets log) (me log) c (own_facts log) other) [
   | Taken t ↦ seat_of log c t
   | Unbeaten k ↦ (let bad : false ≡ true = sym k.taken ∙ taken in absurd cc)
   | Out o ↦ (let bad : false ≡ true = sym o.taken ∙ taken in absurd cc)
@@ -71,12 +70,12 @@ pub is_ordered : (log : GroupLog) → IsOrdered (group_state_of log)
 is_ordered log = record {
   one_name = own_name log;
   suspects = rises-suspicions log;
-  rises = rises-table (me log) (said log);
+  rises = rises-table (forgets log) (me log) (own_facts log);
   others =
       ap (λ (n : List ℕ). row_at name_cmp name_of n (table log)) (own_name log)
-      ∙ row_at-table (me log) (said log) (me log)
-      ∙ ap (λ b. cond b (record_of (said log) (me log)) None) (own_unknown (me log) (said log));
-  few = length_table-le (me log) (said log);
+      ∙ row_at-table (forgets log) (me log) (own_facts log) (me log)
+      ∙ ap (λ b. cond b (record_of (forgets log) (me log) (own_facts log) (me log)) None) (own_unknown (forgets log) (me log) (own_facts log));
+  few = length_table-le (forgets log) (me log) (own_facts log);
 }
 
 -- The same of a state that is reached.
@@ -89,16 +88,16 @@ reached_room origin c s r = subst (HasRoom origin c) (sym r.is) (has_room origin
 pub own_place : (c : Claim) (s : GroupState) → IsGroupReached s → c.name ≡ s.own.name → HasPlace (own_put_in c s) s.queue
 own_place c s r same =
     let room = reached_room Group c s r in
-    subst (λ b. HasPlace (cond b (own_put_in c s) (put_of_other Group s.members.table s.suspicions c)) s.queue)
+    subst (λ b. HasPlace (cond b (own_put_in c s) (put_of_other Group s.members.forgets s.members.table s.suspicions c)) s.queue)
     (same_key names_order c.name s.own.name same) room.place
 
-pub other_place : (origin : Origin) (c : Claim) (s : GroupState) → IsGroupReached s → c.name ≢ s.own.name → HasPlace (put_of_other origin s.members.table s.suspicions c) s.queue
+pub other_place : (origin : Origin) (c : Claim) (s : GroupState) → IsGroupReached s → c.name ≢ s.own.name → HasPlace (put_of_other origin s.members.forgets s.members.table s.suspicions c) s.queue
 other_place origin c s r other =
     let room = reached_room origin c s r in
-    subst (λ b. HasPlace (cond b (own_put_in c s) (put_of_other origin s.members.table s.suspicions c)) s.queue)
+    subst (λ b. HasPlace (cond b (own_put_in c s) (put_of_other origin s.members.forgets s.members.table s.suspicions c)) s.queue)
     (other_key names_order c.name s.own.name other) room.place
 
-pub other_seat : (c : Claim) (s : GroupState) → IsGroupReached s → c.name ≢ s.own.name → takes s.members.table c ≡ true → HasSeat suspected_name c.name s.suspicions
+pub other_seat : (c : Claim) (s : GroupState) → IsGroupReached s → c.name ≢ s.own.name → takes s.members.forgets s.members.table c ≡ true → HasSeat suspected_name c.name s.suspicions
 other_seat c s r other = (reached_room Group c s r).seat (λ e. other (e ∙ sym (reached-ordered s r).one_name))
 
 pub leave_place : (s : GroupState) → IsGroupReached s → HasPlace (put_of_leave s.own) s.queue

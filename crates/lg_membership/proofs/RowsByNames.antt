@@ -1,6 +1,6 @@
 -- The rows of suspicions by the names of the slots: what is found and changed among the rows that are kept is found and
 -- changed there.
-use Rattle.std.proofs.Common.{◌≡◌, ℕ, zero, suc, ◌<◌, List, [], ◌∷◌, length, map, get_or}
+use Rattle.std.proofs.Common.{◌≡◌, ℕ, Bool, zero, suc, ◌<◌, List, [], ◌∷◌, length, map, get_or}
 use Rattle.std.proofs.Common.{Option, refl, sym, ◌∙◌, ap, subst, inl, inr, arith}
 use Rattle.std.specs.Prelude.{option_map}
 use Rattle.std.proofs.lemmas.Bool.{cases_Bool}
@@ -8,7 +8,7 @@ use Rattle.std.proofs.lemmas.List.{length-map}
 use Rattle.lg_rules.specs.Meaning.Rows.{name_cmp, is_same, put_row, row_at, without_row, Rises}
 use Rattle.lg_rules.specs.declared.claim.Claim.{Claim}
 use Rattle.lg_rules.specs.declared.members.Heard.{Heard}
-use Rattle.lg_rules.specs.Meaning.Table.{hearing_of, heard, names_heard, live_in}
+use Rattle.lg_rules.specs.Meaning.Table.{hearing_of, takes, heard, names_heard, live_in}
 use Rattle.lg_timing.specs.declared.config.Config.{Config}
 use Rattle.lg_rules.proofs.Cases.{Below, Tied, Above, compared}
 use Rattle.lg_suspicion.specs.Meaning.Parts.{suspicion_by, IsKnownTo}
@@ -19,7 +19,7 @@ use Rattle.lg_membership.specs.Support.Changes.{change_by, change_of, row_about}
 use Rattle.lg_membership.specs.Support.Room.{HasSeat}
 use Rattle.lg_membership.specs.Support.Rows.{kept_name, row_by, rows_by, AreKnownTo}
 
-module _ (names : List (List ℕ)) where
+module _ (names : List (Option (List ℕ))) where
   pub names-by : (rows : List Suspected) → map suspected_name (rows_by names rows) ≡ map kept_name rows
   names-by [] = refl
   names-by (x ∷ xs) = ap (λ ns. x.name ∷ ns) (names-by xs)
@@ -89,26 +89,26 @@ module _ (names : List (List ℕ)) where
   ]
 
 -- The names that are heard leave what is kept.
-pub known-heard : {after : List (List ℕ)} (names : List (List ℕ)) (c : Claim) (rows : List Suspected)
-    → after ≡ names_heard names c → AreKnownTo names rows → AreKnownTo after rows
-known-heard names c [] is known = known
-known-heard names c (x ∷ xs) is known = (
-  subst (λ ns. IsKnownTo ns x.suspicion) (sym is) (known_one-heard names c x.suspicion known.0),
-  known-heard names c xs is known.1,
+pub known-heard : {after : List (Option (List ℕ))} (taken : Bool) (names : List (Option (List ℕ))) (c : Claim) (rows : List Suspected)
+    → after ≡ names_heard taken names c → AreKnownTo names rows → AreKnownTo after rows
+known-heard taken names c [] is known = known
+known-heard taken names c (x ∷ xs) is known = (
+  subst (λ ns. IsKnownTo ns x.suspicion) (sym is) (known_one-heard taken names c x.suspicion known.0),
+  known-heard taken names c xs is known.1,
 )
 
-pub rows-heard : {after : List (List ℕ)} (names : List (List ℕ)) (c : Claim) (rows : List Suspected)
-    → after ≡ names_heard names c → AreKnownTo names rows → rows_by after rows ≡ rows_by names rows
-rows-heard names c [] is known = refl
-rows-heard names c (x ∷ xs) is known =
-    let one = ap (λ ns. suspicion_by ns x.suspicion) is ∙ suspicion-heard names c x.suspicion known.0 in
-    λ i. record { name = x.name; suspicion = one i } ∷ rows-heard names c xs is known.1 i
+pub rows-heard : {after : List (Option (List ℕ))} (taken : Bool) (names : List (Option (List ℕ))) (c : Claim) (rows : List Suspected)
+    → after ≡ names_heard taken names c → AreKnownTo names rows → rows_by after rows ≡ rows_by names rows
+rows-heard taken names c [] is known = refl
+rows-heard taken names c (x ∷ xs) is known =
+    let one = ap (λ ns. suspicion_by ns x.suspicion) is ∙ suspicion-heard taken names c x.suspicion known.0 in
+    λ i. record { name = x.name; suspicion = one i } ∷ rows-heard taken names c xs is known.1 i
 
 -- so what a claim changes is the same by the names before it and by those after it
-pub change-heard : {h : Heard} {heard-table : List Claim} {after : List (List ℕ)} (opened : Option Config) (now : ℕ)
-    (c : Claim) (table : List Claim) (names : List (List ℕ)) (rows : List Suspected) → h ≡ hearing_of table c
-    → heard-table ≡ heard table c → after ≡ names_heard names c → AreKnownTo names rows
+pub change-heard : {h : Heard} {heard-table : List Claim} {after : List (Option (List ℕ))} (forgetting : Bool) (opened : Option Config) (now : ℕ)
+    (c : Claim) (table : List Claim) (names : List (Option (List ℕ))) (rows : List Suspected) → h ≡ hearing_of forgetting table c
+    → heard-table ≡ heard forgetting table c → after ≡ names_heard (takes forgetting table c) names c → AreKnownTo names rows
     → change_by h opened now (live_in heard-table) (row_about c (rows_by after rows)) c
-    ≡ change_of opened now table (rows_by names rows) c
-change-heard opened now c table names rows hearing changed is known = λ i.
-    change_by (hearing i) opened now (live_in (changed i)) (row_about c (rows-heard names c rows is known i)) c
+    ≡ change_of forgetting opened now table (rows_by names rows) c
+change-heard forgetting opened now c table names rows hearing changed is known = λ i.
+    change_by (hearing i) opened now (live_in (changed i)) (row_about c (rows-heard (takes forgetting table c) names c rows is known i)) c

@@ -1,5 +1,5 @@
 -- What is shown of the members.
-use Rattle.std.proofs.Common.{◌≡◌, ◌≢◌, ℕ, true, false, cond, List, [], map, Option, Some, None, inl, inr, refl, sym, ap, ◌∙◌}
+use Rattle.std.proofs.Common.{◌≡◌, ◌≢◌, ℕ, Bool, true, false, cond, List, [], map, Option, Some, None, inl, inr, refl, sym, ap, ◌∙◌}
 use Rattle.std.specs.Prelude.{is_some}
 use Rattle.std.proofs.lemmas.Bool.{cases_Bool}
 use Rattle.lg_rules.specs.declared.claim.Claim.{Claim}
@@ -62,16 +62,16 @@ own_shown (Some opening) me c rows rise = step (own_hearing me c) c.incarnation
     step Ignored i = refl
 
 -- The same of a claim about another.
-other_shown : (o : Option Config) (me : OwnValue) (c : Claim) (rows : List Claim) → c.name ≢ me.name → Rises name_cmp (map name_of rows)
-    → view_in o me (heard rows c) ≡ with_found (if_open o (taken_if (takes rows c) c)) (view_in o me rows)
-other_shown None me c rows other rise = refl
-other_shown (Some opening) me c rows other rise = elim (cases_Bool (takes rows c)) [
+other_shown : (forgetting : Bool) (o : Option Config) (me : OwnValue) (c : Claim) (rows : List Claim) → c.name ≢ me.name → Rises name_cmp (map name_of rows)
+    → view_in o me (heard forgetting rows c) ≡ with_found (if_open o (taken_if (takes forgetting rows c) c)) (view_in o me rows)
+other_shown forgetting None me c rows other rise = refl
+other_shown forgetting (Some opening) me c rows other rise = elim (cases_Bool (takes forgetting rows c)) [
   | inl t ↦ (
-      ap (put_row name_cmp name_of (own_record me)) (heard_taken rows c t)
+      ap (put_row name_cmp name_of (own_record me)) (heard_taken forgetting rows c t)
       ∙ put_swapped names_order name_of (own_record me) c rows (λ same. other (sym same)) rise
       ∙ sym (ap (λ b. with_found (taken_if b c) (put_row name_cmp name_of (own_record me) rows)) t))
   | inr f ↦ (
-      ap (put_row name_cmp name_of (own_record me)) (heard_passed rows c f)
+      ap (put_row name_cmp name_of (own_record me)) (heard_passed forgetting rows c f)
       ∙ sym (ap (λ b. with_found (taken_if b c) (put_row name_cmp name_of (own_record me) rows)) f))
 ]
 
@@ -86,6 +86,6 @@ shown-applied now origin c s rise =
           ∙ sym (ap (λ (a : Applied). with_found a.changed (shown s)) (applied-own now c s same)))
       | inr other ↦ (
           ap shown (apply-other now origin c s other)
-          ∙ other_shown s.config s.own c s.members.table other rise
+          ∙ other_shown s.members.forgets s.config s.own c s.members.table other rise
           ∙ sym (ap (λ (a : Applied). with_found a.changed (shown s)) (applied-other now c s other)))
     ]

@@ -7,4 +7,5 @@ pub mod Pages
 pub mod Examples
 pub mod NewsExamples
 pub mod LeaveExamples
+pub mod ForgetExamples
 pub mod PageExamples

@@ -1,7 +1,7 @@
 //! Whom a packet goes to, and the record that it begins with.
 //!
 //! Defined in: `specs/Meaning/Gossip.antt`.
-//! Tested in: `lg_detector_tests/src/membership/queue.rt`.
+//! Tested in: `lg_parts_tests/src/membership/queue.rt`.
 ghost use Rattle.std.specs.Prelude.{◌≡◌, option_copied};
 ghost use Rattle.lg_membership.specs.Meaning.Gossip.{tells_news, is_doubted, record_if, buddy_record};
 ghost use Rattle.lg_gossip.specs.Meaning.Queue.{is_suspect};

@@ -1,7 +1,7 @@
 //! What applying a claim did.
 //!
 //! Defined in: `specs/Meaning/Applied.antt`.
-//! Tested in: `lg_detector_tests/src/membership/claims.rt`.
+//! Tested in: `lg_parts_tests/src/membership/claims.rt`.
 use lg_rules::Record;
 
 /// What becomes of the deadline of a member's suspicion when a claim about the member is applied.

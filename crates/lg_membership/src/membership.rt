@@ -1,7 +1,7 @@
 //! What a member knows of its group, and what a claim and a packet change of it.
 //!
 //! Defined in: `specs/Meaning/Applied.antt`, `specs/Meaning/Gossip.antt`, `specs/Meaning/Log.antt`.
-//! Tested in: `lg_detector_tests/src/membership/claims.rt`, `lg_detector_tests/src/membership/queue.rt`.
+//! Tested in: `lg_parts_tests/src/membership/claims.rt`, `lg_parts_tests/src/membership/queue.rt`.
 ghost use Rattle.std.specs.Prelude.{◌≡◌, ◌≢◌, [], ◌∷◌, ◌&&◌, ◌||◌};
 ghost use Rattle.lg_rules.specs.Meaning.Rows.{name_cmp, is_same};
 ghost use Rattle.lg_timing.specs.Meaning.Config.{IsChecked};
@@ -28,6 +28,7 @@ use oneself::{is_refuted, own_arrival, put_if_answered, put_if_leaves, put_of_ow
 use std::cmp::Ordering;
 use std::marker::Model;
 
+mod forgetting;
 mod oneself;
 mod pages;
 mod readers;
@@ -39,7 +40,7 @@ pub use lg_rules::MAX_MEMBERS;
 ///
 /// It is made blank, then opened, and then applies one claim after another. No call allocates memory. A contract sees
 /// it as plain data, which is a function of its log: what it was opened with, which claims were said and when, which
-/// packets were sent, and when the member left.
+/// packets were sent, when the member left, and which names it forgot.
 #[derive(Debug, Drop)]
 pub struct Membership {
     config: Option<Config>,
@@ -164,7 +165,7 @@ impl Membership {
         Membership {
             config: None,
             own: Own::new(name, Addr::v4([0; 4], 0)),
-            members: Members::new(&name),
+            members: Members::new(&name, false),
             suspicions: Suspicions::new(),
             queue: Queue::new(1, Version::One),
         }
@@ -197,7 +198,7 @@ impl Membership {
             → self.new ≡ group_state_of (Opened config.now ∷ log) }
     {
         self.own = Own::new(config.name, config.addr);
-        self.members.restart(&config.name);
+        self.members.restart(&config.name, config.does_forget());
         self.suspicions.clear();
         self.queue.restart(config.lambda, config.version());
         put(&mut self.queue, own_arrival(config.version(), &self.own));
@@ -206,7 +207,7 @@ impl Membership {
 
     /// Applies a claim that is said at a moment, and returns what that did (SWIM, section 4.2; Lifeguard, local
     /// health aware suspicion). At most 256 names are known, this member's included. A claim about one more does
-    /// nothing.
+    /// nothing. If `forget_ms` isn't 0, neither does a claim that an unknown member failed or left.
     #[tactic(auto, unfolding(crate::specs::Support::State::apply_to_group, crate::specs::Support::State::applied))]
     pub fn apply(&mut self, now: Moment, origin: Origin, claim: &Claim) -> Applied
         ensures state { self.new ≡ apply_to_group now origin claim.now self.old }
@@ -274,8 +275,8 @@ impl Membership {
     /// has a record, and `None` is returned too. Allocates no memory.
     ///
     /// From then on a claim about this member does nothing, unless its incarnation is greater than this member's: then
-    /// the own record becomes Left at the claim's incarnation, and is queued. This member still counts as one that isn't
-    /// gone.
+    /// the own record becomes Left at the claim's incarnation, and is queued. This member still counts as one that
+    /// isn't gone.
     pub fn leave(&mut self) -> Option<Record>
         ensures state { self.new ≡ leave_group self.old }
         ensures changed { result ≡ changed_by_leave self.old }

@@ -1,7 +1,7 @@
 //! Where a claim comes from.
 //!
 //! Defined in: this file.
-//! Tested in: `lg_detector_tests/src/membership/playing.rt`.
+//! Tested in: `lg_parts_tests/src/membership/playing.rt`.
 
 /// Where a claim comes from.
 #[derive(Clone, Copy, Debug, PartialEq, Eq)]

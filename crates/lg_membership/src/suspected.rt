@@ -1,7 +1,7 @@
 //! A member that is suspected.
 //!
 //! Defined in: `specs/Meaning/Suspicions.antt`.
-//! Tested in: `lg_detector_tests/src/membership/claims.rt`.
+//! Tested in: `lg_parts_tests/src/membership/claims.rt`.
 ghost use Rattle.std.specs.Prelude.{◌≡◌};
 
 use lg_rules::{Keyed, Name};

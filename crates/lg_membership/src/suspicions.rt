@@ -1,24 +1,24 @@
 //! What a claim about another member changes of the suspicions.
 //!
 //! Defined in: `specs/Meaning/Suspicions.antt`.
-//! Tested in: `lg_detector_tests/src/membership/claims.rt`.
-ghost use Rattle.std.specs.Prelude.{◌≡◌, ◌≤◌, ℕ, List, length, map, None, Some};
+//! Tested in: `lg_parts_tests/src/membership/claims.rt`.
+ghost use Rattle.std.specs.Prelude.{◌≡◌, ◌≢◌, ◌≤◌, ℕ, List, length, map, Option, None, Some};
 ghost use Rattle.arrayvec.specs.ArrayVec.{array_vec_len};
 ghost use Rattle.lg_rules.specs.Meaning.Claim.{accuser_of};
 ghost use Rattle.lg_rules.specs.Meaning.Rows.{name_cmp, row_at, Rises};
-ghost use Rattle.lg_rules.specs.Meaning.Table.{live_in};
+ghost use Rattle.lg_rules.specs.Meaning.Table.{live_in, members_forgot};
 ghost use Rattle.lg_suspicion.specs.Meaning.Parts.{IsKnownTo};
 ghost use Rattle.lg_membership.specs.Meaning.Suspicions.{suspected_name};
 ghost use Rattle.lg_membership.specs.Support.Changes.{raised, ended, overriding, joined, accusing, change_by};
 ghost use Rattle.lg_membership.specs.Support.Changes.{suspicions_after, deadline_of_change, row_about};
 ghost use Rattle.lg_membership.specs.Support.Reached.{IsGood};
 ghost use Rattle.lg_membership.specs.Support.Room.{HasSeat};
-ghost use Rattle.lg_membership.specs.Support.Rows.{kept_name, row_by, rows_by, AreKnownTo};
+ghost use Rattle.lg_membership.specs.Support.Rows.{kept_name, row_by, rows_by, row_without, AreKnownTo};
 
 use crate::applied::Deadline;
 use crate::suspected::Suspected;
 use arrayvec::ArrayVec;
-use lg_rules::{Claim, Heard, MAX_OTHERS, Members, Name, Status, index_of, put_row};
+use lg_rules::{Claim, Heard, MAX_OTHERS, Members, Name, Slot, Status, index_of, put_row};
 use lg_suspicion::Suspicion;
 use lg_timing::{Config, Moment};
 
@@ -72,14 +72,14 @@ fn raise(
 }
 
 /// Ends the suspicion of a member, if there is one.
-fn end(suspicions: &mut Suspicions, name: &Name) -> Deadline
+pub(crate) fn end(suspicions: &mut Suspicions, name: &Name) -> Deadline
     requires { Rises name_cmp (map kept_name suspicions.old.items) }
-    ensures rows { (names : List (List ℕ)) → let before = rows_by names suspicions.old.items in
+    ensures rows { (names : List (Option (List ℕ))) → let before = rows_by names suspicions.old.items in
         let row = row_at name_cmp suspected_name name.now before in
         rows_by names suspicions.new.items ≡ suspicions_after (ended name.now row) before }
-    ensures known { (names : List (List ℕ)) → AreKnownTo names suspicions.old.items
+    ensures known { (names : List (Option (List ℕ))) → AreKnownTo names suspicions.old.items
         → AreKnownTo names suspicions.new.items }
-    ensures deadline { (names : List (List ℕ)) → let before = rows_by names suspicions.old.items in
+    ensures deadline { (names : List (Option (List ℕ))) → let before = rows_by names suspicions.old.items in
         result ≡ deadline_of_change (ended name.now (row_at name_cmp suspected_name name.now before)) }
 {
     match index_of(suspicions.as_slice(), name) {
@@ -197,5 +197,36 @@ pub fn suspect(
         Heard::Overrode => override_row(suspicions, config, now, members, claim),
         Heard::Accused => accuse(suspicions, members, claim),
         Heard::Same | Heard::Ignored | Heard::NoRoom => Deadline::Stays,
+    }
+}
+
+/// Forgets that a name has a slot: a suspicion that has the slot as an accuser has this name from now on.
+fn forget_slot(suspected: &mut Suspected, slot: Slot, name: &Name)
+    ensures { suspected.new ≡ row_without slot name.now suspected.old }
+{
+    suspected.suspicion.forget_slot(slot, name);
+}
+
+/// The same for each of these suspicions.
+fn forget_slots(suspicions: &mut [Suspected], slot: Slot, name: &Name)
+    ensures { suspicions.new ≡ map (row_without slot name.now) suspicions.old }
+{
+    for suspected in suspicions.iter_mut() {
+        forget_slot(suspected, slot, name);
+    }
+}
+
+/// Forgets another member in the table of members, and that its name had a slot. Who is suspected by it still is.
+pub(crate) fn give_back(members: &mut Members, suspicions: &mut Suspicions, name: &Name)
+    requires other { name.now ≢ members.old.own }
+    requires known { AreKnownTo members.old.names suspicions.old.items }
+    ensures members { members.new ≡ members_forgot name.now members.old }
+    ensures rows { rows_by members.new.names suspicions.new.items
+        ≡ rows_by members.old.names suspicions.old.items }
+    ensures known { AreKnownTo members.new.names suspicions.new.items }
+{
+    match members.forget(name) {
+        Some(slot) => forget_slots(suspicions.as_mut_slice(), slot, name),
+        None => {}
     }
 }

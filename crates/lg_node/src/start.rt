@@ -102,6 +102,7 @@ where
         stop: setup.stop,
         over: &over,
         page_heard: &page_heard,
+        group: setup.config.group,
         counters: &counters,
         changes: &changes,
         signal: setup.signal,

@@ -1,5 +1,5 @@
-//! A watcher over an agent of b in memory, which is opened at 0. Another pass of the agent hears packets of a during
-//! the pauses of the watcher's clock.
+//! A watcher over an agent of b in memory, which is opened at 0 and forgets who is gone after one second. Another pass
+//! of the agent hears packets of a, and ticks, during the pauses of the watcher's clock.
 ghost use Rattle.std.specs.Prelude.{◌≡◌};
 
 use arrayvec::ArrayVec;
@@ -20,7 +20,7 @@ use std::sync::atomic::Ordering::SeqCst;
 use std::sync::atomic::{AtomicBool, AtomicU64, AtomicUsize};
 use std::sync::{Mutex, MutexGuard, Wait};
 
-/// What happens during a pause: b hears a claim about the member named by a letter, or the watcher is told to stop.
+/// What happens during a pause. A letter names the member that a claim is about, which b hears.
 #[derive(Clone, Copy, Debug)]
 enum Happens {
     /// It is alive, at an incarnation.
@@ -29,23 +29,15 @@ enum Happens {
     Suspect(u8, u32, u8),
     /// It has failed, at an incarnation.
     Failed(u8, u32),
+    /// So many milliseconds pass.
+    Passes(u64),
+    /// A tick.
+    Tick,
     /// The stop flag is set.
     Stop,
 }
 
-use Happens::{Alive, Failed, Stop, Suspect};
-
-impl Happens {
-    /// What b hears, if it does.
-    fn claim(self) -> Option<Claim> {
-        match self {
-            Alive(member, number) => Some(alive(member, number)),
-            Suspect(member, number, accuser) => Some(suspect(member, number, accuser)),
-            Failed(member, number) => Some(failed(member, number)),
-            Stop => None,
-        }
-    }
-}
+use Happens::{Alive, Failed, Passes, Stop, Suspect, Tick};
 
 /// What happens in each pause of a watcher, and what comes of it.
 #[derive(Clone, Copy, Debug)]
@@ -94,6 +86,13 @@ fn hear<A: AgentName, R: Wait>(
     }
 }
 
+/// Ticks. If memory is refused, it does so once more.
+fn tick<A: AgentName, R: Wait>(rt: &R, alloc: Global, pass: &mut Pass<'_, A>, now: Moment) {
+    if pass.tick(rt, alloc, now, [0; 8]).is_err() {
+        let _ = pass.tick(rt, alloc, now, [0; 8]);
+    }
+}
+
 impl<'a, 'p, A: AgentName, R: Wait> PausingClock<'a, 'p, A, R> {
     /// These happen, in this order.
     fn happen_all(&self, happening: &[Happens]) {
@@ -104,12 +103,29 @@ impl<'a, 'p, A: AgentName, R: Wait> PausingClock<'a, 'p, A, R> {
 
     /// What happens.
     fn happen(&self, happens: Happens) {
-        let Some(claim) = happens.claim() else {
-            self.stop.store(true, SeqCst);
-            return;
-        };
+        match happens {
+            Alive(member, number) => self.hear(alive(member, number)),
+            Suspect(member, number, accuser) => self.hear(suspect(member, number, accuser)),
+            Failed(member, number) => self.hear(failed(member, number)),
+            Passes(ms) => {
+                self.now.fetch_add(ms, SeqCst);
+            }
+            Tick => self.tick(),
+            Stop => self.stop.store(true, SeqCst),
+        }
+    }
+
+    /// The agent hears a claim.
+    fn hear(&self, claim: Claim) {
         let mut guard = self.pass.lock(self.rt);
         hear(self.rt, self.alloc, &mut guard, self.now(), claim);
+        MutexGuard::unlock(guard);
+    }
+
+    /// The agent ticks.
+    fn tick(&self) {
+        let mut guard = self.pass.lock(self.rt);
+        tick(self.rt, self.alloc, &mut guard, self.now());
         MutexGuard::unlock(guard);
     }
 }
@@ -185,7 +201,9 @@ fn run_in<A: AgentName, R: Wait>(
     requires book { book.seen.book ≡ A.book }
     requires places { (places ≡ A.places) × (places ≡ 2) }
 {
-    let config = Config::new(letter(b'b'), local(7000));
+    let mut config = Config::new(letter(b'b'), local(7000));
+    config.forget_ms = 1000;
+    config.check().ok()?;
     let mut agent = Agent::<A>::open(rt, alloc, book, at(0), config, places).ok()?;
     let outcome = match agent.passes(alloc) {
         Ok(passes) => watch_with(rt, alloc, passes, watching, fails_at),
@@ -216,8 +234,9 @@ fn run_at_last<R: Wait>(
 /// One that is told to stop before its first look. A new member, which is suspected and fails. Two changes of a member
 /// between two looks, both told: it is suspected and fails, or is suspected and refutes it. Packets that change
 /// nothing, after which nothing is written. Two new members, told in the order in which they came. A change and the
-/// stop in one pause.
-const ROWS: [Watching; 7] = [
+/// stop in one pause. A member that failed and is forgotten one second later, or is forgotten and known again between
+/// two looks: of the two ticks the first starts a round.
+const ROWS: [Watching; 9] = [
     Watching {
         stopped: true,
         pauses: &[&[Alive(b'c', 0)]],
@@ -274,6 +293,29 @@ const ROWS: [Watching; 7] = [
         pauses: &[&[], &[Alive(b'c', 0), Stop], &[Failed(b'c', 0)]],
         texts: 3,
         text: "0 record b alive 0 127.0.0.1:7000\n100 record c alive 0 127.0.0.1:7000\n100 stood-still 150\n",
+    },
+    Watching {
+        stopped: false,
+        pauses: &[
+            &[Alive(b'c', 0)],
+            &[Failed(b'c', 0)],
+            &[Passes(1000), Tick, Tick],
+        ],
+        texts: 5,
+        text: "0 record b alive 0 127.0.0.1:7000\n50 record c alive 0 127.0.0.1:7000\n\
+            100 record c failed 0 127.0.0.1:7000\n1150 forgotten c\n1200 stood-still 150\n",
+    },
+    Watching {
+        stopped: false,
+        pauses: &[
+            &[Alive(b'c', 0)],
+            &[Failed(b'c', 0)],
+            &[Passes(1000), Tick, Tick, Alive(b'c', 0)],
+        ],
+        texts: 5,
+        text: "0 record b alive 0 127.0.0.1:7000\n50 record c alive 0 127.0.0.1:7000\n\
+            100 record c failed 0 127.0.0.1:7000\n1150 forgotten c\n\
+            1150 record c alive 0 127.0.0.1:7000\n1200 stood-still 150\n",
     },
 ];
 

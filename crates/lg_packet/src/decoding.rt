@@ -2,7 +2,7 @@
 //!
 //! Defined in: `specs/Meaning/Decoding.antt`, `specs/Meaning/Spelling.antt`, `specs/Meaning/Fault.antt`,
 //! `specs/Meaning/Reading.antt`.
-//! Tested in: `lg_detector_tests/src/packet.rt`.
+//! Tested in: `lg_parts_tests/src/packet.rt`.
 ghost use Rattle.std.specs.Prelude.{◌≡◌, [], IfOk, IfErr, OnOk, OnErr, Ok, Err};
 ghost use Rattle.lg_packet.specs.declared.packet.Packet.{Packet};
 ghost use Rattle.lg_packet.specs.Meaning.Decoding.{DecodesTo};

@@ -1,7 +1,7 @@
 //! What is wrong with bytes that are no packet.
 //!
 //! Defined in: `specs/Meaning/Fault.antt`.
-//! Tested in: `lg_detector_tests/src/packet.rt`.
+//! Tested in: `lg_parts_tests/src/packet.rt`.
 
 use lg_rules::{MAX_CLAIMS, MAX_INCARNATION};
 use thiserror::Error;

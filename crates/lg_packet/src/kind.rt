@@ -2,7 +2,7 @@
 //! claims.
 //!
 //! Defined in: `specs/Meaning/Spelling.antt`, `specs/Meaning/Reading.antt`.
-//! Tested in: `lg_detector_tests/src/packet.rt`.
+//! Tested in: `lg_parts_tests/src/packet.rt`.
 ghost use Rattle.std.specs.Prelude.{◌≡◌};
 ghost use Rattle.lg_packet.specs.Meaning.Reading.{version_of_byte, seventh_kind, kind_of_byte};
 ghost use Rattle.lg_packet.specs.Meaning.Reading.{fourth_kind, claim_kind_of_byte};

@@ -1,7 +1,7 @@
 //! Packets: their bodies, and the claims that ride on them.
 //!
 //! Defined in: `specs/Meaning/Spelling.antt`.
-//! Tested in: `lg_detector_tests/src/packet.rt`.
+//! Tested in: `lg_parts_tests/src/packet.rt`.
 ghost use Rattle.std.specs.Prelude.{◌≡◌};
 
 use arrayvec::ArrayVec;

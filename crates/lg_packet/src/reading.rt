@@ -1,7 +1,7 @@
 //! Reads the fields of a packet, from the first byte on.
 //!
 //! Defined in: `specs/Meaning/Reading.antt`.
-//! Tested in: `lg_detector_tests/src/packet.rt`.
+//! Tested in: `lg_parts_tests/src/packet.rt`.
 ghost use Rattle.std.specs.Prelude.{◌≡◌, ◌≤◌, [], length, IfOk};
 ghost use Rattle.std.specs.Prelude.{OnErr, Ok, Err, if◌then◌else◌};
 ghost use Rattle.std.specs.Int.{w16, w32};

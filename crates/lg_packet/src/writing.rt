@@ -1,7 +1,7 @@
 //! Writing packets.
 //!
 //! Defined in: `specs/Meaning/Spelling.antt`, `specs/Meaning/Reading.antt`.
-//! Tested in: `lg_detector_tests/src/packet.rt`.
+//! Tested in: `lg_parts_tests/src/packet.rt`.
 ghost use Rattle.std.specs.Prelude.{◌≡◌, ◌+◌, ◌*◌, ◌<◌, ◌≤◌, ◌++◌, IsTrue, Ok, length, take};
 ghost use Rattle.std.specs.Int.{to_be_bytes};
 ghost use Rattle.std.specs.List.{AllByRecursion};

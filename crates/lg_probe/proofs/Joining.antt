@@ -1,14 +1,21 @@
 -- Names that join an order, and words that choose by it.
-use Rattle.std.proofs.Common.{◌≡◌, ℕ, zero, suc, ◌≤◌, ◌<◌, true, ◌||◌, List, [], ◌∷◌, ◌++◌, length, drop, get_or, Option, Some, None, refl, sym, ◌∙◌, ap, subst, append_assoc, append-nil, length-append, ◌+◌, arith}
+use Rattle.std.proofs.Common.{◌≡◌, ℕ, zero, suc, ◌≤◌, ◌<◌, true, not, ◌||◌, List, [], ◌∷◌, ◌++◌, length, drop, get_or, Option, Some, None, refl, sym, ◌∙◌, ap, subst, append_assoc, append-nil, length-append, ◌+◌, arith}
 use Rattle.std.specs.Option.{option_to_list}
 use Rattle.lg_rules.specs.Meaning.Rows.{in_order, name_cmp, is_same, is_among, put_key, Rises}
 use Rattle.lg_rules.proofs.KeyOrder.{names_order, key_is}
-use Rattle.lg_rules.proofs.Rises.{rises-put, rises-in_order, among-put, among-in_order, among-filter}
+use Rattle.std.proofs.lemmas.List.Sums.{length-filter, count_by-le-length}
+use Rattle.lg_rules.proofs.Rises.{rises-put, rises-filter, rises-in_order, among-put, among-in_order, among-filter}
 use Rattle.lg_rules.proofs.RowLaws.{length_put_row-le}
 use Rattle.lg_rules.proofs.Tests.{both}
-use Rattle.lg_probe.specs.Meaning.Order.{OrderValue, OrderFact, Joined, Left, Chose, current_cycle, names_after, cycle_after, order_after, known_names, ever_joined, then_joined, choice_after, choices_after, picks}
+use Rattle.lg_probe.specs.Meaning.Order.{OrderValue, OrderFact, Joined, Left, Chose, Forgot, current_cycle, without, names_after, cycle_after, order_after, known_names, ever_joined, then_joined, choice_after, choices_after, picks}
 use Rattle.lg_probe.proofs.NameRows.{names_few, among-append}
 use Rattle.lg_probe.proofs.OrderLaws.{InEither, First, Second, in_either, first_of, second_of, candidate_is, in_current}
+
+-- who is among some names but one that is taken out, is among more names but that one
+among_less : (n : List ℕ) (xs ys : List (List ℕ)) (k : List ℕ) → (is_among name_cmp k xs ≡ true → is_among name_cmp k ys ≡ true) → is_among name_cmp k (without n xs) ≡ true → is_among name_cmp k (without n ys) ≡ true
+among_less n xs ys k h a =
+    let parts = both (not (is_same name_cmp k n)) (is_among name_cmp k xs) (sym (among-filter names_order (λ m. not (is_same name_cmp m n)) k xs) ∙ a) in
+    among-filter names_order (λ m. not (is_same name_cmp m n)) k ys ∙ rw (parts.0, h parts.1) refl
 
 -- who is a name, or was chosen in the cycle, has joined
 pub name_joined : (past : List OrderFact) (k : List ℕ) → is_among name_cmp k (names_after past) ≡ true → is_among name_cmp k (ever_joined past) ≡ true
@@ -21,11 +28,13 @@ name_joined (Joined n ∷ past) k a =
     ]
 name_joined (Left n ∷ past) k a = name_joined past k (both _ _ (sym (among-filter names_order _ k (names_after past)) ∙ a)).1
 name_joined (Chose word ∷ past) k a = name_joined past k a
+name_joined (Forgot n ∷ past) k a = among_less n (names_after past) (ever_joined past) k (name_joined past k) a
 
 pub cycle_joined : (past : List OrderFact) (k : List ℕ) → is_among name_cmp k (cycle_after past) ≡ true → is_among name_cmp k (ever_joined past) ≡ true
 cycle_joined [] k a = a
 cycle_joined (Joined n ∷ past) k a = among-put names_order k n (ever_joined past) ∙ second_of (is_same name_cmp n k) _ (cycle_joined past k a)
 cycle_joined (Left n ∷ past) k a = cycle_joined past k a
+cycle_joined (Forgot n ∷ past) k a = among_less n (cycle_after past) (ever_joined past) k (cycle_joined past k) a
 cycle_joined (Chose word ∷ past) k a = step (cycle_joined past k) (choice_after past word) (λ n e. (candidate_is names (current_cycle names cycle) word n e).named) a
   where
     names : List (List ℕ)
@@ -46,6 +55,7 @@ rises-joined [] = tt
 rises-joined (Joined n ∷ past) = rises-put names_order n (ever_joined past) (rises-joined past)
 rises-joined (Left n ∷ past) = rises-joined past
 rises-joined (Chose word ∷ past) = rises-joined past
+rises-joined (Forgot n ∷ past) = rises-filter names_order (λ m. not (is_same name_cmp m n)) (ever_joined past) (rises-joined past)
 
 -- so with one more there are no more known than ever joined
 pub known_joined : (past : List OrderFact) (n : List ℕ) → length (put_key name_cmp n (known_names (order_after past))) ≤ length (put_key name_cmp n (ever_joined past))
@@ -71,6 +81,7 @@ few_joined [] = omega arith
 few_joined (Joined n ∷ past) = omega (arith, few_joined past, length_put_row-le names_order (λ k. k) n (ever_joined past))
 few_joined (Left n ∷ past) = omega (arith, few_joined past)
 few_joined (Chose word ∷ past) = omega (arith, few_joined past)
+few_joined (Forgot n ∷ past) = omega (arith, few_joined past, length-filter (λ m. not (is_same name_cmp m n)) (ever_joined past), count_by-le-length (λ m. not (is_same name_cmp m n)) (ever_joined past))
 
 pub drop-next : {A : Type 0} (xs : List A) (k : ℕ) (d : A) → k < length xs → drop k xs ≡ get_or xs k d ∷ drop (suc k) xs
 drop-next [] k d l = absurd (omega arith)

@@ -66,6 +66,7 @@ use Rattle.lg_probe.specs.Meaning.Order.{
   OrderValue,
   Joined,
   Left,
+  Forgot,
   without,
   candidate,
   candidates,
@@ -308,6 +309,53 @@ module _ {order : OrderValue} {known : List (List ℕ)} {joined chosen : List Bo
       either : (b : Bool) → is_among name_cmp n order.names ≡ b → is_among name_cmp n order.names ≡ false
       either true e = absurd (false≢true (sym (absent n i lacks) ∙ part_within keeps.names n e))
       either false e = e
+
+  -- a name is forgotten, whether it was chosen or not
+  pub out_of_both : (n : List ℕ) (i : ℕ) → length known ≤ 255 → IsAt n known i
+      → Keeps (order_with order (Forgot n)) (remove known i) (closed_flags i (set joined i false))
+      (closed_flags i (set chosen i false))
+  out_of_both n i few has =
+      let p : List ℕ → Bool = λ m. not (is_same name_cmp m n) in
+      let out : remove known i ≡ without n known = taken_out n known i keeps.rises has in
+      let gone : (ns : List (List ℕ)) → is_among name_cmp n (without n ns) ≡ false =
+      λ ns. among-filter names_order p n ns
+      ∙ ap (λ b. not b && is_among name_cmp n ns) (same_key names_order n n refl) in
+      record {
+        rises = subst (Rises name_cmp) (sym out) (rises-filter names_order p known keeps.rises);
+        names = part_closed keeps.rises (part_out keeps.rises keeps.names i n has.within (has.named [])) i n
+            (omega (arith, few)) has.within out (gone order.names);
+        cycle = part_closed keeps.rises (part_out keeps.rises keeps.cycle i n has.within (has.named [])) i n
+            (omega (arith, few)) has.within out (gone order.chosen);
+        used = λ k a. used k
+            (both (p k) (is_among name_cmp k known)
+            (sym (among-filter names_order p k known) ∙ sym (ap (is_among name_cmp k) out) ∙ a));
+      }
+    where
+      kept : (k : List ℕ) (ns : List (List ℕ)) → not (is_same name_cmp k n) ≡ true → is_among name_cmp k ns ≡ true
+          → is_among name_cmp k (without n ns) ≡ true
+      kept k ns other b = among-filter names_order (λ m. not (is_same name_cmp m n)) k ns ∙ rw (other, b) refl
+
+      used : (k : List ℕ) → (not (is_same name_cmp k n) ≡ true) × (is_among name_cmp k known ≡ true)
+          → is_among name_cmp k (without n order.chosen ++ without n order.names) ≡ true
+      used k parts = either_first k order.chosen (without n order.chosen) (without n order.names)
+          (kept k order.chosen parts.0)
+          (either_list k order.chosen order.names (without n order.names) (kept k order.names parts.0)
+          (keeps.used k parts.1))
+
+  pub forgot_unknown : (n : List ℕ) (i : ℕ) → WouldBeAt n known i → order ≡ order_with order (Forgot n)
+  forgot_unknown n i lacks =
+      λ j. record {
+        names = same order.names (part_within keeps.names n) j;
+        chosen = same order.chosen (part_within keeps.cycle n) j;
+      }
+    where
+      fresh : (b : Bool) → (b ≡ true → is_among name_cmp n known ≡ true) → b ≡ false
+      fresh true there = absurd (false≢true (sym (absent n i lacks) ∙ there refl))
+      fresh false there = refl
+
+      same : (ns : List (List ℕ)) → (is_among name_cmp n ns ≡ true → is_among name_cmp n known ≡ true)
+          → ns ≡ without n ns
+      same ns there = sym (filter-none (λ m. is_same name_cmp m n) ns (fresh (is_among name_cmp n ns) there))
 
   -- a new cycle begins, and nobody has left
   pub begun : length known ≤ 255 → length known ≤ count_set joined

@@ -10,6 +10,7 @@ use Rattle.std.proofs.Common.{
   false,
   not,
   cond,
+  ◌&&◌,
   ◌||◌,
   List,
   [],
@@ -28,13 +29,15 @@ use Rattle.std.specs.Prelude.{filter, slice_get}
 use Rattle.std.specs.List.{list_all}
 use Rattle.std.specs.Option.{option_to_list}
 use Rattle.std.proofs.lemmas.Bool.{false≢true, not-true}
-use Rattle.lg_rules.specs.Meaning.Rows.{name_cmp, is_among, in_order}
+use Rattle.lg_rules.specs.Meaning.Rows.{name_cmp, is_same, is_among, in_order}
 use Rattle.lg_rules.proofs.KeyOrder.{names_order}
-use Rattle.lg_rules.proofs.Rises.{among-in_order, among-filter, among-cons_same, among-later}
+use Rattle.lg_rules.proofs.Rises.{rises-filter, rises-in_order, among-in_order, among-filter, among-cons_same, among-later, same_members}
 use Rattle.lg_rules.proofs.Tests.{both}
 use Rattle.lg_probe.specs.Meaning.Order.{
   OrderFact,
   Chose,
+  Forgot,
+  without,
   candidate,
   candidates,
   is_over,
@@ -106,6 +109,24 @@ chosen_after past word =
     (λ i. put_choice (choice-in_order names cycle word i) (current-in_order names cycle i))
     ∙ put_choice-in_order (choice names cycle word) (current_cycle names cycle) in
     λ i. record { names = names; chosen = chosen i }
+
+-- one is forgotten after a past
+pub without-in_order : (n : List ℕ) (cycle : List (List ℕ))
+    → without n (in_order name_cmp cycle) ≡ in_order name_cmp (without n cycle)
+without-in_order n cycle =
+    let p : List ℕ → Bool = λ m. not (is_same name_cmp m n) in
+    same_members names_order (without n (in_order name_cmp cycle)) (in_order name_cmp (without n cycle))
+    (rises-filter names_order p (in_order name_cmp cycle) (rises-in_order names_order cycle))
+    (rises-in_order names_order (without n cycle))
+    (λ k.
+    among-filter names_order p k (in_order name_cmp cycle)
+    ∙ ap (λ b. p k && b) (among-in_order names_order k cycle)
+    ∙ sym (among-filter names_order p k cycle)
+    ∙ sym (among-in_order names_order k (without n cycle)))
+
+pub forgot_after : (n : List ℕ) (past : List OrderFact)
+    → order_with (order_after past) (Forgot n) ≡ order_after (Forgot n ∷ past)
+forgot_after n past = λ i. record { names = without n (names_after past); chosen = without-in_order n (cycle_after past) i }
 
 pub choice_after-is : (past : List OrderFact) (word : ℕ)
     → choice (order_after past).names (order_after past).chosen word ≡ choice (names_after past) (cycle_after past) word

@@ -1,7 +1,7 @@
 //! The helpers of a probe, which are asked for an indirect probe (ping-req).
 //!
 //! Defined in: `specs/Meaning/Helpers.antt`, `specs/Meaning/Order.antt`.
-//! Tested in: `lg_detector_tests/src/probe.rt`.
+//! Tested in: `lg_parts_tests/src/probe.rt`.
 ghost use Rattle.std.specs.Prelude.{◌≡◌, ◌≤◌, List, [], length};
 ghost use Rattle.lg_probe.specs.Meaning.Helpers.{picked};
 ghost use Rattle.lg_probe.specs.Meaning.Order.{OrderFact, names_after, order_after, without};

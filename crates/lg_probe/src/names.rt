@@ -1,7 +1,7 @@
 //! Rows of names, and sets of the numbers of their entries.
 //!
 //! Defined in: `lg_rules/specs/Meaning/Rows.antt`, `lg_bit_set/specs/Meaning/Flags.antt`.
-//! Tested in: `lg_detector_tests/src/probe.rt`.
+//! Tested in: `lg_parts_tests/src/probe.rt`.
 ghost use Rattle.std.specs.Prelude.{◌≡◌, ◌+◌, ◌≤◌, ◌++◌, length};
 ghost use Rattle.arrayvec.specs.ArrayVec.{array_vec_len};
 ghost use Rattle.lg_bit_set.specs.Meaning.Flags.{entries_in};

@@ -1,7 +1,7 @@
 //! The order of probing: cycles, in each of which each member is chosen once.
 //!
 //! Defined in: `specs/Meaning/Order.antt`, `specs/Meaning/Helpers.antt`.
-//! Tested in: `lg_detector_tests/src/probe.rt`.
+//! Tested in: `lg_parts_tests/src/probe.rt`.
 ghost use Rattle.std.specs.Prelude.{◌≡◌, ◌≤◌, true, ℕ, List, [], ◌∷◌, ◌++◌, length, ◌==◌};
 ghost use Rattle.std.specs.Prelude.{IfOk, OnOk};
 ghost use Rattle.std.specs.Option.{option_to_list};
@@ -9,7 +9,7 @@ ghost use Rattle.arrayvec.specs.ArrayVec.{array_vec_len};
 ghost use Rattle.lg_rules.specs.Meaning.Rows.{name_cmp, is_among, put_key, Rises};
 ghost use Rattle.lg_probe.specs.Meaning.Order.{current_cycle, choice, without};
 ghost use Rattle.lg_probe.specs.Meaning.Order.{choice_after, ever_joined, known_names, picks, then_joined};
-ghost use Rattle.lg_probe.specs.Meaning.Order.{OrderFact, Joined, Left, Chose, order_after, order_with};
+ghost use Rattle.lg_probe.specs.Meaning.Order.{OrderFact, Joined, Left, Chose, Forgot, order_after, order_with};
 ghost use Rattle.lg_probe.specs.Meaning.Order.{EachInWindows, choices_after, names_after, window};
 ghost use Rattle.lg_probe.specs.Meaning.Helpers.{picked_by};
 
@@ -141,7 +141,7 @@ impl Order {
     /// Lets a member join. It is a candidate at once, unless it was chosen in the current cycle.
     ///
     /// With it, at most 255 names may be known: those that have joined and not left, and those chosen in the current
-    /// cycle. That holds as long as, with it, at most 255 names have ever joined.
+    /// cycle. That holds as long as, with it, at most 255 names have ever joined and weren't forgotten since.
     pub fn join(&mut self, name: &Name)
         requires { length (put_key name_cmp name.now (known_names self.old)) ≤ MAX_OTHERS }
         ensures order { self.new ≡ order_with self.old (Joined name.now) }
@@ -173,6 +173,21 @@ impl Order {
                 self.joined.close(at as u8);
                 self.chosen.close(at as u8);
             }
+        }
+    }
+
+    /// Forgets a member: it leaves, and counts as chosen no longer. If it joins again, it is a candidate at once.
+    pub fn forget(&mut self, name: &Name)
+        ensures order { self.new ≡ order_with self.old (Forgot name.now) }
+        ensures past { (past : List OrderFact) → self.old ≡ order_after past
+            → self.new ≡ order_after (Forgot name.now ∷ past) }
+    {
+        if let Ok(at) = index_of(self.known.as_slice(), name) {
+            self.joined.remove(at as u8);
+            self.chosen.remove(at as u8);
+            self.known.remove(at);
+            self.joined.close(at as u8);
+            self.chosen.close(at as u8);
         }
     }
 
@@ -242,8 +257,8 @@ pub fn choose_all(alloc: Global, names: &[Name], words: &[u32]) -> Result<Vec<Na
     Ok(chosen)
 }
 
-/// An order has room for a name as long as at most 255 names have ever joined, that one included (this project's
-/// choice). This is a law, and the call does nothing.
+/// An order has room for a name as long as at most 255 names have ever joined and weren't forgotten since, that one
+/// included (this project's choice). This is a law, and the call does nothing.
 pub fn orders_have_room()
     ensures { (past : List OrderFact) (name : List ℕ) → length (ever_joined (Joined name ∷ past)) ≤ MAX_OTHERS
         → length (put_key name_cmp name (known_names (order_after past))) ≤ MAX_OTHERS }

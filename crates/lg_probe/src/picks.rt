@@ -1,7 +1,7 @@
 //! Picks by random words, among the names of a row whose numbers are in a set.
 //!
 //! Defined in: `specs/Meaning/Helpers.antt`, `specs/Meaning/Order.antt`.
-//! Tested in: `lg_detector_tests/src/probe.rt`.
+//! Tested in: `lg_parts_tests/src/probe.rt`.
 ghost use Rattle.std.specs.Prelude.{◌≡◌, ◌≤◌, ◌<◌, ◌%◌, ◌++◌, length};
 ghost use Rattle.std.specs.Option.{option_to_list};
 ghost use Rattle.arrayvec.specs.ArrayVec.{array_vec_len};

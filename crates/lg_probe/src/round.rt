@@ -1,7 +1,7 @@
 //! A round of probing: one probe of a target, and the mark that it earns.
 //!
 //! Defined in: `specs/Meaning/Round.antt`.
-//! Tested in: `lg_detector_tests/src/probe.rt`.
+//! Tested in: `lg_parts_tests/src/probe.rt`.
 ghost use Rattle.std.specs.Prelude.{◌≡◌, ◌≤◌, List, [], ◌∷◌, length};
 ghost use Rattle.lg_probe.specs.Meaning.Round.{RoundFact, Asked, Acked, Nacked, ack_counts, is_first_ack, nack_counts};
 ghost use Rattle.lg_probe.specs.Meaning.Round.{is_acked, mark_of, round_of, round_with, silent_in};

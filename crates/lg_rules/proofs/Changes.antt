@@ -1,5 +1,5 @@
 -- Which records of the view differ once claims are heard: those of the names that they changed.
-use Rattle.std.proofs.Common.{◌≡◌, ◌≢◌, ℕ, ◌≤◌, true, false, ◌&&◌, not, cond, List, [], ◌∷◌, length, Option, Some, None, inl, inr, refl, sym, ◌∙◌, ap, subst, arith, eqb}
+use Rattle.std.proofs.Common.{◌≡◌, ◌≢◌, ℕ, ◌≤◌, Bool, true, false, ◌&&◌, not, cond, List, [], ◌∷◌, length, Option, Some, None, inl, inr, refl, sym, ◌∙◌, ap, subst, arith, eqb}
 use Rattle.std.specs.Prelude.{filter}
 use Rattle.std.proofs.lemmas.Bool.{cases_Bool, eq-eqb, eqb-true, false≢true, and_parts}
 use Rattle.std.proofs.lemmas.Slice.Eq.{bytes_eq-Decides}
@@ -29,23 +29,23 @@ abbrev pub after_claims : List OwnFact → List Claim → List OwnFact
 after_claims past [] = past
 after_claims past (c ∷ cs) = after_claims (Told c ∷ past) cs
 
-pub hear_claims-standing : (name : List ℕ) (addr : Addr) (past : List OwnFact) (cs : List Claim) → standing_after (standing_of name addr past) cs ≡ standing_of name addr (after_claims past cs)
-hear_claims-standing name addr past [] = refl
-hear_claims-standing name addr past (c ∷ cs) = ap (λ m. standing_after m cs) (hear_claim-standing name addr past c) ∙ hear_claims-standing name addr (Told c ∷ past) cs
+pub hear_claims-standing : (forgets : Bool) (name : List ℕ) (addr : Addr) (past : List OwnFact) (cs : List Claim) → standing_after (standing_of forgets name addr past) cs ≡ standing_of forgets name addr (after_claims past cs)
+hear_claims-standing forgets name addr past [] = refl
+hear_claims-standing forgets name addr past (c ∷ cs) = ap (λ m. standing_after m cs) (hear_claim-standing forgets name addr past c) ∙ hear_claims-standing forgets name addr (Told c ∷ past) cs
 
 -- the names whose records claims change after a past
-abbrev pub names_after : List ℕ → Addr → List OwnFact → List Claim → List (List ℕ)
-names_after name addr past cs = changed_names (standing_of name addr past) cs
+abbrev pub names_after : Bool → List ℕ → Addr → List OwnFact → List Claim → List (List ℕ)
+names_after forgets name addr past cs = changed_names (standing_of forgets name addr past) cs
 
-names_more : (name : List ℕ) (addr : Addr) (past : List OwnFact) (c : Claim) (cs : List Claim) → changes_record (standing_of name addr past) c ≡ true → names_after name addr past (c ∷ cs) ≡ c.name ∷ names_after name addr (Told c ∷ past) cs
-names_more name addr past c cs t =
-    ap (λ b. cond b (c.name ∷ changed_names (hear_claim (standing_of name addr past) c) cs) (changed_names (hear_claim (standing_of name addr past) c) cs)) t
-    ∙ ap (λ m. c.name ∷ changed_names m cs) (hear_claim-standing name addr past c)
+names_more : (forgets : Bool) (name : List ℕ) (addr : Addr) (past : List OwnFact) (c : Claim) (cs : List Claim) → changes_record (standing_of forgets name addr past) c ≡ true → names_after forgets name addr past (c ∷ cs) ≡ c.name ∷ names_after forgets name addr (Told c ∷ past) cs
+names_more forgets name addr past c cs t =
+    ap (λ b. cond b (c.name ∷ changed_names (hear_claim (standing_of forgets name addr past) c) cs) (changed_names (hear_claim (standing_of forgets name addr past) c) cs)) t
+    ∙ ap (λ m. c.name ∷ changed_names m cs) (hear_claim-standing forgets name addr past c)
 
-names_none : (name : List ℕ) (addr : Addr) (past : List OwnFact) (c : Claim) (cs : List Claim) → changes_record (standing_of name addr past) c ≡ false → names_after name addr past (c ∷ cs) ≡ names_after name addr (Told c ∷ past) cs
-names_none name addr past c cs f =
-    ap (λ b. cond b (c.name ∷ changed_names (hear_claim (standing_of name addr past) c) cs) (changed_names (hear_claim (standing_of name addr past) c) cs)) f
-    ∙ ap (λ m. changed_names m cs) (hear_claim-standing name addr past c)
+names_none : (forgets : Bool) (name : List ℕ) (addr : Addr) (past : List OwnFact) (c : Claim) (cs : List Claim) → changes_record (standing_of forgets name addr past) c ≡ false → names_after forgets name addr past (c ∷ cs) ≡ names_after forgets name addr (Told c ∷ past) cs
+names_none forgets name addr past c cs f =
+    ap (λ b. cond b (c.name ∷ changed_names (hear_claim (standing_of forgets name addr past) c) cs) (changed_names (hear_claim (standing_of forgets name addr past) c) cs)) f
+    ∙ ap (λ m. changed_names m cs) (hear_claim-standing forgets name addr past c)
 
 -- what overrides what overrides a third overrides that
 beats_through : (r c b : Claim) → beats_of r c ≡ true → beats_of c b ≡ true → beats_of r b ≡ true
@@ -59,44 +59,44 @@ follows_through r c None p h = tt
 follows_through r c (Some b) p h = beats_through r c b p h
 
 -- A record of a name overrides the one before where its claims changed it, and else is the one before.
-record Traced (name : List ℕ) (addr : Addr) (past : List OwnFact) (cs : List Claim) (m : List ℕ) (r : Claim) : Type 0 where
-  hit : is_known m (names_after name addr past cs) ≡ true → Follows r (row_at name_cmp name_of m (view_after name addr past))
-  missed : is_known m (names_after name addr past cs) ≡ false → row_at name_cmp name_of m (view_after name addr past) ≡ Some r
+record Traced (forgets : Bool) (name : List ℕ) (addr : Addr) (past : List OwnFact) (cs : List Claim) (m : List ℕ) (r : Claim) : Type 0 where
+  hit : is_known m (names_after forgets name addr past cs) ≡ true → Follows r (row_at name_cmp name_of m (view_after forgets name addr past))
+  missed : is_known m (names_after forgets name addr past cs) ≡ false → row_at name_cmp name_of m (view_after forgets name addr past) ≡ Some r
 
-traced_hit : (name : List ℕ) (addr : Addr) (past : List OwnFact) (c : Claim) (cs : List Claim) (r : Claim) → IsChange name addr c past → Traced name addr (Told c ∷ past) cs c.name r → Traced name addr past (c ∷ cs) c.name r
-traced_hit name addr past c cs r n rest =
-    let more = names_more name addr past c cs n.changes in
+traced_hit : (forgets : Bool) (name : List ℕ) (addr : Addr) (past : List OwnFact) (c : Claim) (cs : List Claim) (r : Claim) → IsChange forgets name addr c past → Traced forgets name addr (Told c ∷ past) cs c.name r → Traced forgets name addr past (c ∷ cs) c.name r
+traced_hit forgets name addr past c cs r n rest =
+    let more = names_more forgets name addr past c cs n.changes in
     record {
-      hit = λ h. elim (cases_Bool (is_known c.name (names_after name addr (Told c ∷ past) cs))) [
-        | inl a ↦ follows_through r n.r (row_at name_cmp name_of c.name (view_after name addr past)) (subst (Follows r) n.row (rest.hit a)) n.follows
-        | inr b ↦ subst (λ x. Follows x (row_at name_cmp name_of c.name (view_after name addr past))) (held_once n.r r (sym n.row ∙ rest.missed b)) n.follows
+      hit = λ h. elim (cases_Bool (is_known c.name (names_after forgets name addr (Told c ∷ past) cs))) [
+        | inl a ↦ follows_through r n.r (row_at name_cmp name_of c.name (view_after forgets name addr past)) (subst (Follows r) n.row (rest.hit a)) n.follows
+        | inr b ↦ subst (λ x. Follows x (row_at name_cmp name_of c.name (view_after forgets name addr past))) (held_once n.r r (sym n.row ∙ rest.missed b)) n.follows
       ];
-      missed = λ h. absurd (false≢true (sym h ∙ ap (is_known c.name) more ∙ among-cons_same names_order c.name c.name (names_after name addr (Told c ∷ past) cs) refl));
+      missed = λ h. absurd (false≢true (sym h ∙ ap (is_known c.name) more ∙ among-cons_same names_order c.name c.name (names_after forgets name addr (Told c ∷ past) cs) refl));
     }
 
-traced_other : (name : List ℕ) (addr : Addr) (past : List OwnFact) (c : Claim) (cs : List Claim) (m : List ℕ) (r : Claim) → IsChange name addr c past → c.name ≢ m → Traced name addr (Told c ∷ past) cs m r → Traced name addr past (c ∷ cs) m r
-traced_other name addr past c cs m r n d rest =
+traced_other : (forgets : Bool) (name : List ℕ) (addr : Addr) (past : List OwnFact) (c : Claim) (cs : List Claim) (m : List ℕ) (r : Claim) → IsChange forgets name addr c past → c.name ≢ m → Traced forgets name addr (Told c ∷ past) cs m r → Traced forgets name addr past (c ∷ cs) m r
+traced_other forgets name addr past c cs m r n d rest =
     let row = n.others m d in
-    let among : is_known m (names_after name addr past (c ∷ cs)) ≡ is_known m (names_after name addr (Told c ∷ past) cs) = ap (is_known m) (names_more name addr past c cs n.changes) ∙ among-cons_other names_order m c.name (names_after name addr (Told c ∷ past) cs) d in
+    let among : is_known m (names_after forgets name addr past (c ∷ cs)) ≡ is_known m (names_after forgets name addr (Told c ∷ past) cs) = ap (is_known m) (names_more forgets name addr past c cs n.changes) ∙ among-cons_other names_order m c.name (names_after forgets name addr (Told c ∷ past) cs) d in
     record {
       hit = λ h. subst (Follows r) row (rest.hit (sym among ∙ h));
       missed = λ h. sym row ∙ rest.missed (sym among ∙ h);
     }
 
-traced : (name : List ℕ) (addr : Addr) (past : List OwnFact) (cs : List Claim) (m : List ℕ) (r : Claim) → row_at name_cmp name_of m (view_after name addr (after_claims past cs)) ≡ Some r → Traced name addr past cs m r
-traced name addr past [] m r e = record { hit = λ h. absurd (false≢true h); missed = λ h. e }
-traced name addr past (c ∷ cs) m r e =
-    let rest : Traced name addr (Told c ∷ past) cs m r = traced name addr (Told c ∷ past) cs m r e in
-    elim (view_hearing name addr c past) [
+traced : (forgets : Bool) (name : List ℕ) (addr : Addr) (past : List OwnFact) (cs : List Claim) (m : List ℕ) (r : Claim) → row_at name_cmp name_of m (view_after forgets name addr (after_claims past cs)) ≡ Some r → Traced forgets name addr past cs m r
+traced forgets name addr past [] m r e = record { hit = λ h. absurd (false≢true h); missed = λ h. e }
+traced forgets name addr past (c ∷ cs) m r e =
+    let rest : Traced forgets name addr (Told c ∷ past) cs m r = traced forgets name addr (Told c ∷ past) cs m r e in
+    elim (view_hearing forgets name addr c past) [
       | Leaves f same ↦ (
-          let names : names_after name addr past (c ∷ cs) ≡ names_after name addr (Told c ∷ past) cs = names_none name addr past c cs f in
+          let names : names_after forgets name addr past (c ∷ cs) ≡ names_after forgets name addr (Told c ∷ past) cs = names_none forgets name addr past c cs f in
           record {
             hit = λ h. subst (λ v. Follows r (row_at name_cmp name_of m v)) same (rest.hit (sym (ap (is_known m) names) ∙ h));
             missed = λ h. sym (ap (row_at name_cmp name_of m) same) ∙ rest.missed (sym (ap (is_known m) names) ∙ h);
           })
       | Changes n ↦ elim (cases_key names_order c.name m) [
-        | inl is ↦ subst (λ k. Traced name addr past (c ∷ cs) k r) is (traced_hit name addr past c cs r n (subst (λ k. Traced name addr (Told c ∷ past) cs k r) (sym is) rest))
-        | inr d ↦ traced_other name addr past c cs m r n d rest
+        | inl is ↦ subst (λ k. Traced forgets name addr past (c ∷ cs) k r) is (traced_hit forgets name addr past c cs r n (subst (λ k. Traced forgets name addr (Told c ∷ past) cs k r) (sym is) rest))
+        | inr d ↦ traced_other forgets name addr past c cs m r n d rest
       ]
     ]
 
@@ -150,21 +150,21 @@ fresh r (Some b) h = elim (cases_Bool (is_same_claim b r)) [
 ]
 
 -- a record of the view differs exactly where claims changed it
-differs : (name : List ℕ) (addr : Addr) (past : List OwnFact) (cs : List Claim) (r : Claim) → row_at name_cmp name_of r.name (view_after name addr (after_claims past cs)) ≡ Some r
-    → not (is_row r (row_at name_cmp name_of r.name (view_after name addr past))) ≡ is_known r.name (names_after name addr past cs)
-differs name addr past cs r e =
-    let t = traced name addr past cs r.name r e in
-    elim (cases_Bool (is_known r.name (names_after name addr past cs))) [
-      | inl a ↦ ap not (fresh r (row_at name_cmp name_of r.name (view_after name addr past)) (t.hit a)) ∙ sym a
+differs : (forgets : Bool) (name : List ℕ) (addr : Addr) (past : List OwnFact) (cs : List Claim) (r : Claim) → row_at name_cmp name_of r.name (view_after forgets name addr (after_claims past cs)) ≡ Some r
+    → not (is_row r (row_at name_cmp name_of r.name (view_after forgets name addr past))) ≡ is_known r.name (names_after forgets name addr past cs)
+differs forgets name addr past cs r e =
+    let t = traced forgets name addr past cs r.name r e in
+    elim (cases_Bool (is_known r.name (names_after forgets name addr past cs))) [
+      | inl a ↦ ap not (fresh r (row_at name_cmp name_of r.name (view_after forgets name addr past)) (t.hit a)) ∙ sym a
       | inr b ↦ ap (λ o. not (is_row r o)) (t.missed b) ∙ ap not (claim_itself r) ∙ sym b
     ]
 
-changed-past : (name : List ℕ) (addr : Addr) (past : List OwnFact) (cs : List Claim)
-    → changed (view_after name addr past) (view_after name addr (after_claims past cs)) ≡ filter (λ r. is_known r.name (names_after name addr past cs)) (view_after name addr (after_claims past cs))
-changed-past name addr past cs =
-    let rows : List Claim = view_after name addr (after_claims past cs) in
-    filter_same (λ r. not (is_row r (row_at name_cmp name_of r.name (view_after name addr past)))) (λ r. is_known r.name (names_after name addr past cs)) (λ r. row_at name_cmp name_of r.name rows ≡ Some r) rows (differs name addr past cs)
-    (rows_found names_order name_of rows (rises-view name addr (after_claims past cs)))
+changed-past : (forgets : Bool) (name : List ℕ) (addr : Addr) (past : List OwnFact) (cs : List Claim)
+    → changed (view_after forgets name addr past) (view_after forgets name addr (after_claims past cs)) ≡ filter (λ r. is_known r.name (names_after forgets name addr past cs)) (view_after forgets name addr (after_claims past cs))
+changed-past forgets name addr past cs =
+    let rows : List Claim = view_after forgets name addr (after_claims past cs) in
+    filter_same (λ r. not (is_row r (row_at name_cmp name_of r.name (view_after forgets name addr past)))) (λ r. is_known r.name (names_after forgets name addr past cs)) (λ r. row_at name_cmp name_of r.name rows ≡ Some r) rows (differs forgets name addr past cs)
+    (rows_found names_order name_of rows (rises-view forgets name addr (after_claims past cs)))
 
 pub length-changed_names : (m : Standing) (cs : List Claim) → length (changed_names m cs) ≤ length cs
 length-changed_names m [] = omega arith
@@ -174,20 +174,20 @@ length-changed_names m (c ∷ cs) = elim (cases_Bool (changes_record m c)) [
 ]
 
 -- Once claims are heard after a past, the records that differ are those of the names that they changed,
-pub changed-heard : (name : List ℕ) (addr : Addr) (past : List OwnFact) (cs : List Claim) (m : Standing) → m ≡ standing_of name addr past
+pub changed-heard : (forgets : Bool) (name : List ℕ) (addr : Addr) (past : List OwnFact) (cs : List Claim) (m : Standing) → m ≡ standing_of forgets name addr past
     → changed (standing_view m) (standing_view (standing_after m cs)) ≡ filter (λ r. is_known r.name (changed_names m cs)) (standing_view (standing_after m cs))
-changed-heard name addr past cs m is =
+changed-heard forgets name addr past cs m is =
     subst (λ (k : Standing). changed (standing_view k) (standing_view (standing_after k cs)) ≡ filter (λ r. is_known r.name (changed_names k cs)) (standing_view (standing_after k cs))) (sym is)
-    (subst (λ (k : Standing). changed (view_after name addr past) (standing_view k) ≡ filter (λ r. is_known r.name (names_after name addr past cs)) (standing_view k)) (sym (hear_claims-standing name addr past cs)) (changed-past name addr past cs))
+    (subst (λ (k : Standing). changed (view_after forgets name addr past) (standing_view k) ≡ filter (λ r. is_known r.name (names_after forgets name addr past cs)) (standing_view k)) (sym (hear_claims-standing forgets name addr past cs)) (changed-past forgets name addr past cs))
 
 -- and they are no more than the claims.
-pub length-changed_records : (name : List ℕ) (addr : Addr) (past : List OwnFact) (cs : List Claim) (m : Standing) → m ≡ standing_of name addr past
+pub length-changed_records : (forgets : Bool) (name : List ℕ) (addr : Addr) (past : List OwnFact) (cs : List Claim) (m : Standing) → m ≡ standing_of forgets name addr past
     → length (filter (λ r. is_known r.name (changed_names m cs)) (standing_view (standing_after m cs))) ≤ length cs
-length-changed_records name addr past cs m is =
+length-changed_records forgets name addr past cs m is =
     let few = subst (λ (k : Standing). length (filter (λ r. is_known r.name (changed_names m cs)) (standing_view k)) ≤ length (changed_names m cs))
-    (sym (ap (λ k. standing_after k cs) is ∙ hear_claims-standing name addr past cs))
-    (few_among names_order name_of (changed_names m cs) (view_after name addr (after_claims past cs)) (rises-view name addr (after_claims past cs))) in
+    (sym (ap (λ k. standing_after k cs) is ∙ hear_claims-standing forgets name addr past cs))
+    (few_among names_order name_of (changed_names m cs) (view_after forgets name addr (after_claims past cs)) (rises-view forgets name addr (after_claims past cs))) in
     omega (arith, few, length-changed_names m cs)
 
-pub length-changed : (name : List ℕ) (addr : Addr) (past : List OwnFact) (cs : List Claim) (m : Standing) → m ≡ standing_of name addr past → length (changed (standing_view m) (standing_view (standing_after m cs))) ≤ length cs
-length-changed name addr past cs m is = subst (λ xs. length xs ≤ length cs) (sym (changed-heard name addr past cs m is)) (length-changed_records name addr past cs m is)
+pub length-changed : (forgets : Bool) (name : List ℕ) (addr : Addr) (past : List OwnFact) (cs : List Claim) (m : Standing) → m ≡ standing_of forgets name addr past → length (changed (standing_view m) (standing_view (standing_after m cs))) ≤ length cs
+length-changed forgets name addr past cs m is = subst (λ xs. length xs ≤ length cs) (sym (changed-heard forgets name addr past cs m is)) (length-changed_records forgets name addr past cs m is)

@@ -1,5 +1,6 @@
 pub mod Cases
 pub mod Changes
+pub mod FirstKnown
 pub mod KeyOrder
 pub mod NameLemmas
 pub mod OwnLaws
@@ -7,11 +8,15 @@ pub mod PastLaws
 pub mod Places
 pub mod Ranks
 pub mod Rises
+pub mod Removing
+pub mod Renumbering
 pub mod Roster
 pub mod RowLaws
 pub mod RowsFound
+pub mod Stories
 pub mod Tables
 pub mod Tests
+pub mod Unforgotten
 pub mod Views
 pub mod Words
 pub mod LiveLaws

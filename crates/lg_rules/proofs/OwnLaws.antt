@@ -9,7 +9,7 @@ use Rattle.lg_rules.specs.declared.claim.Status.TheVariants.{Alive, Suspect, Fai
 use Rattle.lg_rules.specs.declared.own.OwnHeard.{OwnHeard}
 use Rattle.lg_rules.specs.declared.own.OwnHeard.TheVariants.{Refuted, Raised, Ousted, Ignored}
 use Rattle.lg_rules.specs.Meaning.Rows.{name_cmp, is_same}
-use Rattle.lg_rules.specs.Meaning.Own.{OwnValue, OwnFact, Told, TakesLeave, beyond, own_hearing, own_hearing_at}
+use Rattle.lg_rules.specs.Meaning.Own.{OwnValue, OwnFact, Told, Forgets, TakesLeave, beyond, own_hearing, own_hearing_at}
 use Rattle.lg_rules.specs.Meaning.Own.{left_hearing_at, oneself_hearing, oneself_changed, own_heard, own_left}
 use Rattle.lg_rules.specs.Meaning.Own.{own_after, is_own_fact, own_of, claims_told}
 use Rattle.lg_rules.proofs.KeyOrder.{names_order, same_key, other_key, cases_key}
@@ -41,6 +41,11 @@ own-same name addr c past e = rw (same_key names_order c.name name e)
 pub own-other : (name : List ℕ) (addr : Addr) (c : Claim) (past : List OwnFact) → c.name ≢ name → own_of name addr (Told c ∷ past) ≡ own_of name addr past
 unfolding own_of
 own-other name addr c past d = rw (other_key names_order c.name name d)
+
+-- nor is a name that is forgotten
+pub own-forgot : (name : List ℕ) (addr : Addr) (n : List ℕ) (past : List OwnFact) → own_of name addr (Forgets n ∷ past) ≡ own_of name addr past
+unfolding own_of
+own-forgot name addr n past = refl
 
 -- once it leaves, it has left
 pub own-leaves : (name : List ℕ) (addr : Addr) (past : List OwnFact) → own_of name addr (TakesLeave ∷ past) ≡ own_left (own_of name addr past)
@@ -109,11 +114,13 @@ own_heard_addr me c = changed_addr (own_hearing me c) c.incarnation me
 after_name : (name : List ℕ) (addr : Addr) (past : List OwnFact) → (own_after name addr past).name ≡ name
 after_name name addr [] = refl
 after_name name addr (Told c ∷ past) = own_heard_name (own_after name addr past) c ∙ after_name name addr past
+after_name name addr (Forgets n ∷ past) = after_name name addr past
 after_name name addr (TakesLeave ∷ past) = after_name name addr past
 
 after_addr : (name : List ℕ) (addr : Addr) (past : List OwnFact) → (own_after name addr past).addr ≡ addr
 after_addr name addr [] = refl
 after_addr name addr (Told c ∷ past) = own_heard_addr (own_after name addr past) c ∙ after_addr name addr past
+after_addr name addr (Forgets n ∷ past) = after_addr name addr past
 after_addr name addr (TakesLeave ∷ past) = after_addr name addr past
 
 pub own_of_name : (name : List ℕ) (addr : Addr) (past : List OwnFact) → (own_of name addr past).name ≡ name
@@ -139,5 +146,7 @@ own_of_within name addr [] low = own-nil_within name addr
 own_of_within name addr (Told c ∷ past) low =
     subst (λ (me : OwnValue). me.number ≤ 1000000000) (sym (own-cons name addr c past))
     (heard_within (own_of name addr past) c (low 0 c (omega arith)) (own_of_within name addr past (λ k d l. low (suc k) d (omega (arith, l)))))
+own_of_within name addr (Forgets n ∷ past) low =
+    subst (λ (me : OwnValue). me.number ≤ 1000000000) (sym (own-forgot name addr n past)) (own_of_within name addr past low)
 own_of_within name addr (TakesLeave ∷ past) low =
     subst (λ (me : OwnValue). me.number ≤ 1000000000) (sym (own-leaves name addr past)) (own_of_within name addr past low)

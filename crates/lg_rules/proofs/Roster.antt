@@ -1,199 +1,187 @@
--- The others that are known, once one more claim is said.
-use Rattle.std.proofs.Common.{◌≡◌, ◌≢◌, ℕ, ◌<◌, ◌≤◌, Bool, true, false, List, [], ◌∷◌, length, ◌⊎◌, inl, inr, refl, sym, ◌∙◌, ap, subst, arith}
-use Rattle.std.proofs.lemmas.Bool.{cases_Bool, cases_lt, false≢true}
+-- The others that are known, once one more fact comes.
+use Rattle.std.proofs.Common.{◌≡◌, ◌≢◌, ℕ, suc, ◌<◌, ◌≤◌, Bool, true, false, not, ◌&&◌, ◌||◌, cond, List, [], ◌∷◌, length, inl, inr, refl, sym, ◌∙◌, ap, subst, arith, ltb}
+use Rattle.std.proofs.lemmas.Bool.{cases_Bool, false≢true, and_parts, not-true, ltb-true}
 use Rattle.lg_rules.specs.declared.claim.Claim.{Claim}
-use Rattle.lg_rules.specs.Meaning.Past.{oldest}
-use Rattle.lg_rules.specs.Meaning.Rows.{name_cmp, is_among, put_key, in_order, distinct, Rises}
-use Rattle.lg_rules.specs.Meaning.Table.{names_said, roster}
-use Rattle.lg_rules.proofs.KeyOrder.{names_order, same_key, other_key, cases_key}
-use Rattle.lg_rules.proofs.PastLaws.{oldest-all, oldest-more}
-use Rattle.lg_rules.proofs.Rises.{rises-in_order, among-put_same, among-put_other, among-cons_same, among-cons_other, among-later, length-put}
+use Rattle.lg_rules.specs.Meaning.Claim.{is_gone}
+use Rattle.lg_rules.specs.Meaning.Own.{OwnFact, Told, Forgets, TakesLeave}
+use Rattle.lg_rules.specs.Meaning.Rows.{name_cmp, is_same, is_among, put_key, without_key, Rises}
+use Rattle.lg_rules.specs.Meaning.Table.{lets_in, makes_known, roster}
+use Rattle.lg_rules.proofs.KeyOrder.{names_order, same_key, other_key, cases_key, apart}
+use Rattle.lg_rules.proofs.PastLaws.{neither}
+use Rattle.lg_rules.proofs.Rises.{rises-put, rises-filter, among-put, among-put_other, among-filter, among-cons_other, length-put, not_among}
 
 abbrev pub is_known : List ℕ → List (List ℕ) → Bool
 is_known = is_among name_cmp
 
--- the names said of others
-pub names-own : (own : List ℕ) (c : Claim) (past : List Claim) → c.name ≡ own → names_said own (c ∷ past) ≡ names_said own past
-names-own own c past e = rw (same_key names_order c.name own e)
+-- A claim that makes its member known is about another that is unknown, and there is room.
+pub record IsNew (forgets : Bool) (own : List ℕ) (names : List (List ℕ)) (c : Claim) : Type 0 where
+  pub made : makes_known forgets own names c ≡ true
+  pub other : c.name ≢ own
+  pub out : is_known c.name names ≡ false
+  pub room : length names < 255
+  pub let_in : lets_in forgets (length names) c ≡ true
 
-pub names-other : (own : List ℕ) (c : Claim) (past : List Claim) → c.name ≢ own → names_said own (c ∷ past) ≡ c.name ∷ names_said own past
-names-other own c past d = rw (other_key names_order c.name own d)
+pub is_new : (forgets : Bool) (own : List ℕ) (names : List (List ℕ)) (c : Claim) → makes_known forgets own names c ≡ true → IsNew forgets own names c
+is_new forgets own names c e =
+    let outer = and_parts (not (is_same name_cmp c.name own)) (not (is_known c.name names) && lets_in forgets (length names) c) e in
+    let inner = and_parts (not (is_known c.name names)) (lets_in forgets (length names) c) outer.1 in
+    let few = and_parts (ltb (length names) 255) (not (forgets && is_gone c.status)) inner.1 in
+    record {
+      made = e;
+      other = apart names_order c.name own (not-true (is_same name_cmp c.name own) outer.0);
+      out = not-true (is_known c.name names) inner.0;
+      room = ltb-true (length names) 255 few.0;
+      let_in = inner.1;
+    }
 
--- the own name is none of them
-pub own_unsaid : (own : List ℕ) (past : List Claim) → is_known own (names_said own past) ≡ false
-own_unsaid own [] = refl
-own_unsaid own (c ∷ past) = elim (cases_key names_order c.name own) [
-  | inl e ↦ ap (is_known own) (names-own own c past e) ∙ own_unsaid own past
-  | inr d ↦ ap (is_known own) (names-other own c past d) ∙ among-cons_other names_order own c.name (names_said own past) d ∙ own_unsaid own past
+-- Which claims make nobody known: those about oneself, those about who is known, and those that let nobody in.
+pub makes-own : (forgets : Bool) (own : List ℕ) (names : List (List ℕ)) (c : Claim) → c.name ≡ own → makes_known forgets own names c ≡ false
+makes-own forgets own names c e = rw (same_key names_order c.name own e)
+
+never : (a b : Bool) → (not a && (not true && b)) ≡ false
+never true b = refl
+never false b = refl
+
+pub makes-known : (forgets : Bool) (own : List ℕ) (names : List (List ℕ)) (c : Claim) → is_known c.name names ≡ true → makes_known forgets own names c ≡ false
+makes-known forgets own names c a = rw a (never (is_same name_cmp c.name own) (lets_in forgets (length names) c))
+
+pub makes-unknown : (forgets : Bool) (own : List ℕ) (names : List (List ℕ)) (c : Claim) → c.name ≢ own → is_known c.name names ≡ false
+    → makes_known forgets own names c ≡ lets_in forgets (length names) c
+makes-unknown forgets own names c d f = rw (other_key names_order c.name own d, f)
+
+-- the keys but one
+pub among-without : (m n : List ℕ) (ns : List (List ℕ)) → is_known m (without_key name_cmp n ns) ≡ (not (is_same name_cmp m n) && is_known m ns)
+among-without m n ns = among-filter names_order (λ k. not (is_same name_cmp k n)) m ns
+
+pub among-without_other : (m n : List ℕ) (ns : List (List ℕ)) → m ≢ n → is_known m (without_key name_cmp n ns) ≡ is_known m ns
+among-without_other m n ns d = among-without m n ns ∙ ap (λ b. not b && is_known m ns) (other_key names_order m n d)
+
+pub among-without_same : (n : List ℕ) (ns : List (List ℕ)) → is_known n (without_key name_cmp n ns) ≡ false
+among-without_same n ns = among-without n n ns ∙ ap (λ b. not b && is_known n ns) (same_key names_order n n refl)
+
+pub without-out : (n : List ℕ) (ns : List (List ℕ)) → is_known n ns ≡ false → without_key name_cmp n ns ≡ ns
+without-out n [] f = refl
+without-out n (x ∷ xs) f =
+    let parts = neither (is_same name_cmp x n) (is_known n xs) f in
+    rw parts.0 (ap (λ ms. x ∷ ms) (without-out n xs parts.1))
+
+pub length-without : (n : List ℕ) (ns : List (List ℕ)) → Rises name_cmp ns → is_known n ns ≡ true → suc (length (without_key name_cmp n ns)) ≡ length ns
+length-without n [] r a = absurd (false≢true a)
+length-without n (x ∷ xs) r a = elim (cases_key names_order x n) [
+  | inl e ↦ (
+      let gone : is_known n xs ≡ false = subst (λ k. is_known k xs ≡ false) e (not_among names_order x xs r.0) in
+      rw (same_key names_order x n e) (ap (λ ms. suc (length ms)) (without-out n xs gone)))
+  | inr d ↦ rw (other_key names_order x n d) (ap suc (length-without n xs r.1 (sym (among-cons_other names_order n x xs d) ∙ a)))
 ]
 
-pub roster-nil : (own : List ℕ) → roster own [] ≡ []
-unfolding roster
-roster-nil own = refl
+pub length-without_le : (n : List ℕ) (ns : List (List ℕ)) → length (without_key name_cmp n ns) ≤ length ns
+length-without_le n [] = omega arith
+length-without_le n (x ∷ xs) = elim (cases_Bool (is_same name_cmp x n)) [
+  | inl t ↦ rw t (omega (arith, length-without_le n xs))
+  | inr f ↦ rw f (omega (arith, length-without_le n xs))
+]
 
-pub rises-roster : (own : List ℕ) (past : List Claim) → Rises name_cmp (roster own past)
-unfolding roster
-rises-roster own past = rises-in_order names_order (oldest 255 (distinct name_cmp (names_said own past)))
+module _ (forgets : Bool) (own : List ℕ) where
+  -- what each fact does to the names that are known
+  pub roster-nil : roster forgets own [] ≡ []
+  unfolding roster
+  roster-nil = refl
 
--- What a claim does to the names that are known. It is about oneself,
-pub roster-own : (own : List ℕ) (c : Claim) (past : List Claim) → c.name ≡ own → roster own (c ∷ past) ≡ roster own past
-unfolding roster
-roster-own own c past e = ap (λ ns. in_order name_cmp (oldest 255 (distinct name_cmp ns))) (names-own own c past e)
+  roster-told : (c : Claim) (past : List OwnFact)
+      → roster forgets own (Told c ∷ past) ≡ cond (makes_known forgets own (roster forgets own past) c) (put_key name_cmp c.name (roster forgets own past)) (roster forgets own past)
+  unfolding roster
+  roster-told c past = refl
 
--- or about a name that was said before,
-abbrev pub different : List ℕ → List Claim → List (List ℕ)
-different own past = distinct name_cmp (names_said own past)
+  pub roster-new : (c : Claim) (past : List OwnFact) → makes_known forgets own (roster forgets own past) c ≡ true
+      → roster forgets own (Told c ∷ past) ≡ put_key name_cmp c.name (roster forgets own past)
+  roster-new c past t = roster-told c past ∙ ap (λ b. cond b (put_key name_cmp c.name (roster forgets own past)) (roster forgets own past)) t
 
-pub different-said : (own : List ℕ) (c : Claim) (past : List Claim) → c.name ≢ own → is_known c.name (names_said own past) ≡ true → different own (c ∷ past) ≡ different own past
-different-said own c past d a = ap (distinct name_cmp) (names-other own c past d) ∙ rw a
+  pub roster-passed : (c : Claim) (past : List OwnFact) → makes_known forgets own (roster forgets own past) c ≡ false
+      → roster forgets own (Told c ∷ past) ≡ roster forgets own past
+  roster-passed c past f = roster-told c past ∙ ap (λ b. cond b (put_key name_cmp c.name (roster forgets own past)) (roster forgets own past)) f
 
-pub different-new : (own : List ℕ) (c : Claim) (past : List Claim) → c.name ≢ own → is_known c.name (names_said own past) ≡ false → different own (c ∷ past) ≡ c.name ∷ different own past
-different-new own c past d f = ap (distinct name_cmp) (names-other own c past d) ∙ rw f
+  pub roster-forgot : (n : List ℕ) (past : List OwnFact) → roster forgets own (Forgets n ∷ past) ≡ without_key name_cmp n (roster forgets own past)
+  unfolding roster
+  roster-forgot n past = refl
 
-roster-said : (own : List ℕ) (c : Claim) (past : List Claim) → c.name ≢ own → is_known c.name (names_said own past) ≡ true → roster own (c ∷ past) ≡ roster own past
-unfolding roster
-roster-said own c past d a = ap (λ ns. in_order name_cmp (oldest 255 ns)) (different-said own c past d a)
+  pub roster-leaves : (past : List OwnFact) → roster forgets own (TakesLeave ∷ past) ≡ roster forgets own past
+  unfolding roster
+  roster-leaves past = refl
 
--- or about a new name, with room for it,
-roster-new : (own : List ℕ) (c : Claim) (past : List Claim) → c.name ≢ own → is_known c.name (names_said own past) ≡ false → length (different own past) < 255
-    → roster own (c ∷ past) ≡ put_key name_cmp c.name (roster own past)
-unfolding roster
-roster-new own c past d f few =
-    let before = oldest-all 255 (different own past) (omega arith) in
-    let now = oldest-all 255 (c.name ∷ different own past) (omega arith) in
-    ap (λ ns. in_order name_cmp (oldest 255 ns)) (different-new own c past d f)
-    ∙ ap (in_order name_cmp) now
-    ∙ ap (λ ns. put_key name_cmp c.name (in_order name_cmp ns)) (sym before)
+  pub roster-own : (c : Claim) (past : List OwnFact) → c.name ≡ own → roster forgets own (Told c ∷ past) ≡ roster forgets own past
+  roster-own c past e = roster-passed c past (makes-own forgets own (roster forgets own past) c e)
 
--- or without.
-roster-full : (own : List ℕ) (c : Claim) (past : List Claim) → c.name ≢ own → is_known c.name (names_said own past) ≡ false → 255 ≤ length (different own past) → roster own (c ∷ past) ≡ roster own past
-unfolding roster
-roster-full own c past d f many =
-    ap (λ ns. in_order name_cmp (oldest 255 ns)) (different-new own c past d f)
-    ∙ ap (in_order name_cmp) (oldest-more 255 c.name (different own past) many)
+  -- What is told makes nobody unknown.
+  pub stays_known : (c : Claim) (past : List OwnFact) (m : List ℕ) → is_known m (roster forgets own past) ≡ true → is_known m (roster forgets own (Told c ∷ past)) ≡ true
+  stays_known c past m a = elim (cases_Bool (makes_known forgets own (roster forgets own past) c)) [
+    | inl t ↦ ap (is_known m) (roster-new c past t) ∙ among-put names_order m c.name (roster forgets own past) ∙ later (is_same name_cmp c.name m) a
+    | inr f ↦ ap (is_known m) (roster-passed c past f) ∙ a
+  ]
+    where
+      later : (b : Bool) {d : Bool} → d ≡ true → (b || d) ≡ true
+      later true e = refl
+      later false e = e
 
--- The names that are known were said; they are all, until there are 255.
-record IsRoster (own : List ℕ) (past : List Claim) : Type 0 where
-  said : (m : List ℕ) → is_known m (roster own past) ≡ true → is_known m (names_said own past) ≡ true
-  all : length (different own past) < 255 → length (roster own past) ≡ length (different own past)
-  full : 255 ≤ length (different own past) → length (roster own past) ≡ 255
-  missed : (m : List ℕ) → is_known m (names_said own past) ≡ true → is_known m (roster own past) ≡ false → 255 ≤ length (different own past)
+  -- A claim makes nobody but its member known.
+  pub others_known : (c : Claim) (past : List OwnFact) (m : List ℕ) → c.name ≢ m → is_known m (roster forgets own (Told c ∷ past)) ≡ is_known m (roster forgets own past)
+  others_known c past m d = elim (cases_Bool (makes_known forgets own (roster forgets own past) c)) [
+    | inl t ↦ ap (is_known m) (roster-new c past t) ∙ among-put_other names_order m c.name (roster forgets own past) d
+    | inr f ↦ ap (is_known m) (roster-passed c past f)
+  ]
 
--- the same names are known, and no other is said
-roster_stays : (own : List ℕ) (c : Claim) (past : List Claim) → roster own (c ∷ past) ≡ roster own past → ((m : List ℕ) → is_known m (names_said own (c ∷ past)) ≡ is_known m (names_said own past)) → different own (c ∷ past) ≡ different own past → IsRoster own past → IsRoster own (c ∷ past)
-roster_stays own c past same said ds before = record {
-  said = λ m a. said m ∙ before.said m (ap (is_known m) (sym same) ∙ a);
-  all = rw (same, ds) before.all;
-  full = rw (same, ds) before.full;
-  missed = λ m a b. rw ds (before.missed m (sym (said m) ∙ a) (ap (is_known m) (sym same) ∙ b));
-}
+  -- They are in the order of names,
+  pub rises-roster : (past : List OwnFact) → Rises name_cmp (roster forgets own past)
+  rises-roster [] = subst (Rises name_cmp) (sym roster-nil) tt
+  rises-roster (Told c ∷ past) = elim (cases_Bool (makes_known forgets own (roster forgets own past) c)) [
+    | inl t ↦ subst (Rises name_cmp) (sym (roster-new c past t)) (rises-put names_order c.name (roster forgets own past) (rises-roster past))
+    | inr f ↦ subst (Rises name_cmp) (sym (roster-passed c past f)) (rises-roster past)
+  ]
+  rises-roster (Forgets n ∷ past) =
+      subst (Rises name_cmp) (sym (roster-forgot n past)) (rises-filter names_order (λ k. not (is_same name_cmp k n)) (roster forgets own past) (rises-roster past))
+  rises-roster (TakesLeave ∷ past) = subst (Rises name_cmp) (sym (roster-leaves past)) (rises-roster past)
 
-not_true : (b : Bool) → (b ≡ true → ⊥) → b ≡ false
-not_true true h = absurd (h refl)
-not_true false h = refl
+  -- the own name isn't among them,
+  pub own_unknown : (past : List OwnFact) → is_known own (roster forgets own past) ≡ false
+  own_unknown [] = ap (is_known own) roster-nil
+  own_unknown (Told c ∷ past) = elim (cases_Bool (makes_known forgets own (roster forgets own past) c)) [
+    | inl t ↦ ap (is_known own) (roster-new c past t) ∙ among-put_other names_order own c.name (roster forgets own past) (is_new forgets own (roster forgets own past) c t).other ∙ own_unknown past
+    | inr f ↦ ap (is_known own) (roster-passed c past f) ∙ own_unknown past
+  ]
+  own_unknown (Forgets n ∷ past) =
+      ap (is_known own) (roster-forgot n past) ∙ among-without own n (roster forgets own past)
+      ∙ ap (λ b. not (is_same name_cmp own n) && b) (own_unknown past) ∙ none (not (is_same name_cmp own n))
+    where
+      none : (b : Bool) → (b && false) ≡ false
+      none true = refl
+      none false = refl
+  own_unknown (TakesLeave ∷ past) = ap (is_known own) (roster-leaves past) ∙ own_unknown past
 
-roster_grows : (own : List ℕ) (c : Claim) (past : List Claim) → c.name ≢ own → is_known c.name (names_said own past) ≡ false → length (different own past) < 255 → IsRoster own past → IsRoster own (c ∷ past)
-roster_grows own c past d f few before =
-    let ns = names_said own past in
-    let names = names-other own c past d in
-    let put = roster-new own c past d f few in
-    let ds = ap length (different-new own c past d f) in
-    let fresh : is_known c.name (roster own past) ≡ false = not_true (is_known c.name (roster own past)) (λ t. false≢true (sym f ∙ before.said c.name t)) in
-    let len = ap length put ∙ length-put names_order c.name (roster own past) fresh in
-    let counted = before.all few in
-    record {
-      said = λ m a. ap (is_known m) names ∙ known m (cases_key names_order c.name m) (ap (is_known m) (sym put) ∙ a);
-      all = λ l. omega (arith, len, ds, counted);
-      full = λ l. omega (arith, len, ds, counted);
-      missed = λ m a b. absurd (lost m (cases_key names_order c.name m) (ap (is_known m) (sym names) ∙ a) (ap (is_known m) (sym put) ∙ b));
-    }
-  where
-    known : (m : List ℕ) → (c.name ≡ m) ⊎ (c.name ≢ m) → is_known m (put_key name_cmp c.name (roster own past)) ≡ true → is_known m (c.name ∷ names_said own past) ≡ true
-    known m (inl e) a = among-cons_same names_order m c.name (names_said own past) e
-    known m (inr u) a = among-later names_order m c.name (names_said own past) (before.said m (sym (among-put_other names_order m c.name (roster own past) u) ∙ a))
+  -- and there are at most 255.
+  pub length-roster : (past : List OwnFact) → length (roster forgets own past) ≤ 255
+  length-roster [] = omega (arith, ap length roster-nil)
+  length-roster (Told c ∷ past) = elim (cases_Bool (makes_known forgets own (roster forgets own past) c)) [
+    | inl t ↦ (
+        let new = is_new forgets own (roster forgets own past) c t in
+        omega (arith, ap length (roster-new c past t), length-put names_order c.name (roster forgets own past) new.out, new.room))
+    | inr f ↦ omega (arith, ap length (roster-passed c past f), length-roster past)
+  ]
+  length-roster (Forgets n ∷ past) = omega (arith, ap length (roster-forgot n past), length-without_le n (roster forgets own past), length-roster past)
+  length-roster (TakesLeave ∷ past) = omega (arith, ap length (roster-leaves past), length-roster past)
 
-    lost : (m : List ℕ) → (c.name ≡ m) ⊎ (c.name ≢ m) → is_known m (c.name ∷ names_said own past) ≡ true → is_known m (put_key name_cmp c.name (roster own past)) ≡ false → ⊥
-    lost m (inl e) a b = false≢true (sym b ∙ subst (λ k. is_known k (put_key name_cmp c.name (roster own past)) ≡ true) e (among-put_same names_order c.name (roster own past)))
-    lost m (inr u) a b =
-        let many = before.missed m (sym (among-cons_other names_order m c.name (names_said own past) u) ∙ a) (sym (among-put_other names_order m c.name (roster own past) u) ∙ b) in
-        omega (arith, few, many)
+  -- What a claim about another does to the known names: its name is known, or joins them, or isn't let in.
+  pub data Joined (c : Claim) (past : List OwnFact) : Type 0 where
+    Knew : is_known c.name (roster forgets own past) ≡ true → roster forgets own (Told c ∷ past) ≡ roster forgets own past → Joined c past
+    Joins : IsNew forgets own (roster forgets own past) c → roster forgets own (Told c ∷ past) ≡ put_key name_cmp c.name (roster forgets own past) → Joined c past
+    Refused : is_known c.name (roster forgets own past) ≡ false → lets_in forgets (length (roster forgets own past)) c ≡ false
+        → roster forgets own (Told c ∷ past) ≡ roster forgets own past → Joined c past
 
-roster_closed : (own : List ℕ) (c : Claim) (past : List Claim) → c.name ≢ own → is_known c.name (names_said own past) ≡ false → 255 ≤ length (different own past) → IsRoster own past → IsRoster own (c ∷ past)
-roster_closed own c past d f many before =
-    let names = names-other own c past d in
-    let same = roster-full own c past d f many in
-    let ds = ap length (different-new own c past d f) in
-    record {
-      said = λ m a. ap (is_known m) names ∙ among-later names_order m c.name (names_said own past) (before.said m (ap (is_known m) (sym same) ∙ a));
-      all = λ l. absurd (omega (arith, ds, l, many));
-      full = λ l. ap length same ∙ before.full many;
-      missed = λ m a b. omega (arith, ds, many);
-    }
-
-is_roster : (own : List ℕ) (past : List Claim) → IsRoster own past
-is_roster own [] = record {
-  said = λ m a. absurd (false≢true (ap (is_known m) (sym (roster-nil own)) ∙ a));
-  all = λ l. ap length (roster-nil own);
-  full = λ l. absurd (omega arith);
-  missed = λ m a b. absurd (false≢true a);
-}
-is_roster own (c ∷ past) =
-    let before = is_roster own past in
-    elim (cases_key names_order c.name own) [
-      | inl e ↦ roster_stays own c past (roster-own own c past e) (λ m. ap (is_known m) (names-own own c past e)) (ap (distinct name_cmp) (names-own own c past e)) before
-      | inr d ↦ elim (cases_Bool (is_known c.name (names_said own past))) [
-        | inl a ↦ roster_stays own c past (roster-said own c past d a) (λ m. ap (is_known m) (names-other own c past d) ∙ said_before m a) (different-said own c past d a) before
-        | inr f ↦ elim (cases_lt (length (different own past)) 255) [
-          | inl few ↦ roster_grows own c past d f few before
-          | inr many ↦ roster_closed own c past d f many before
-        ]
-      ]
-    ]
-  where
-    said_before : (m : List ℕ) → is_known c.name (names_said own past) ≡ true → is_known m (c.name ∷ names_said own past) ≡ is_known m (names_said own past)
-    said_before m a = elim (cases_key names_order c.name m) [
-      | inl e ↦ among-cons_same names_order m c.name (names_said own past) e ∙ sym (subst (λ k. is_known k (names_said own past) ≡ true) e a)
-      | inr u ↦ among-cons_other names_order m c.name (names_said own past) u
-    ]
-
--- a known name was said
-pub roster_said : (own : List ℕ) (past : List Claim) (m : List ℕ) → is_known m (roster own past) ≡ true → is_known m (names_said own past) ≡ true
-roster_said own past m a = (is_roster own past).said m a
-
--- a name that was said isn't known only if there was no room for it
-pub roster_missed : (own : List ℕ) (past : List Claim) (m : List ℕ) → is_known m (names_said own past) ≡ true
-    → is_known m (roster own past) ≡ false → 255 ≤ length (different own past)
-roster_missed own past m a b = (is_roster own past).missed m a b
-
--- the own name isn't among the others
-pub own_unknown : (own : List ℕ) (past : List Claim) → is_known own (roster own past) ≡ false
-own_unknown own past = not_true (is_known own (roster own past)) (λ t. false≢true (sym (own_unsaid own past) ∙ roster_said own past own t))
-
--- there are at most 255
-pub length-roster : (own : List ℕ) (past : List Claim) → length (roster own past) ≤ 255
-length-roster own past =
-    let is = is_roster own past in
-    elim (cases_lt (length (different own past)) 255) [
-      | inl few ↦ (let e = is.all few in omega (arith, e, few))
-      | inr many ↦ (let e = is.full many in omega (arith, e))
-    ]
-
--- What a claim about another does to the known names: its name is known, or joins them, or there is no room for it.
-pub data Joined (own : List ℕ) (c : Claim) (past : List Claim) : Type 0 where
-  Knew : is_known c.name (roster own past) ≡ true → roster own (c ∷ past) ≡ roster own past → Joined own c past
-  Joins : is_known c.name (names_said own past) ≡ false → is_known c.name (roster own past) ≡ false → length (roster own past) < 255 → roster own (c ∷ past) ≡ put_key name_cmp c.name (roster own past) → Joined own c past
-  Refused : is_known c.name (roster own past) ≡ false → 255 ≤ length (roster own past) → roster own (c ∷ past) ≡ roster own past → Joined own c past
-
-pub joined : (own : List ℕ) (c : Claim) (past : List Claim) → c.name ≢ own → Joined own c past
-joined own c past d =
-    let is = is_roster own past in
-    elim (cases_Bool (is_known c.name (roster own past))) [
-      | inl a ↦ Knew a (roster-said own c past d (is.said c.name a))
-      | inr b ↦ elim (cases_Bool (is_known c.name (names_said own past))) [
-        | inl s ↦ (let full = is.full (is.missed c.name s b) in Refused b (omega (arith, full)) (roster-said own c past d s))
-        | inr f ↦ elim (cases_lt (length (different own past)) 255) [
-          | inl few ↦ (let e = is.all few in Joins f b (omega (arith, e, few)) (roster-new own c past d f few))
-          | inr many ↦ (let e = is.full many in Refused b (omega (arith, e)) (roster-full own c past d f many))
-        ]
-      ]
-    ]
+  pub joined : (c : Claim) (past : List OwnFact) → c.name ≢ own → Joined c past
+  joined c past d = elim (cases_Bool (is_known c.name (roster forgets own past))) [
+    | inl a ↦ Knew a (roster-passed c past (makes-known forgets own (roster forgets own past) c a))
+    | inr f ↦ (
+        let test = makes-unknown forgets own (roster forgets own past) c d f in
+        elim (cases_Bool (lets_in forgets (length (roster forgets own past)) c)) [
+          | inl t ↦ Joins (is_new forgets own (roster forgets own past) c (test ∙ t)) (roster-new c past (test ∙ t))
+          | inr g ↦ Refused f g (roster-passed c past (test ∙ g))
+        ])
+  ]

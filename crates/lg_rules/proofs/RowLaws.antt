@@ -5,7 +5,7 @@ use Rattle.std.specs.List.{cons_option}
 use Rattle.std.specs.declared.cmp.Ordering.{Ordering}
 use Rattle.std.specs.declared.cmp.Ordering.TheVariants.{Less, Equal, Greater}
 use Rattle.std.proofs.lemmas.Bool.{cases_Bool, false≢true}
-use Rattle.lg_rules.specs.Meaning.Rows.{is_same, is_among, put_row, put_key, row_at, without_row, AreAbove, Rises}
+use Rattle.lg_rules.specs.Meaning.Rows.{is_same, is_among, put_row, put_key, row_at, without_row, without_key, AreAbove, Rises}
 use Rattle.lg_rules.proofs.Cases.{Missing, Holding, held, Below, Tied, Above, compared}
 use Rattle.lg_rules.proofs.KeyOrder.{IsKeyOrder, turned, same_key, other_key, cases_key, less_apart}
 use Rattle.lg_rules.proofs.Rises.{above_lower, not_among, put-there, length-put, among-cons_other, among-cons_same, among-later}
@@ -47,6 +47,17 @@ module _ {K : Type 0} {cmp : K → K → Ordering} (order : IsKeyOrder cmp) wher
     | Below l ↦ rw (l, e)
     | Tied t ↦ (let none : f n ≡ None = ap f (sym (order.exact m n t)) ∙ e in rw (t, e, none))
     | Above g ↦ rw g (ap (cons_option (f n)) (rows-skip f m ns e))
+  ]
+
+  -- and neither does one that is left out
+  pub rows-less : {R : Type 0} (f : K → Option R) (m : K) (ns : List K) → f m ≡ None → filter_map f (without_key cmp m ns) ≡ filter_map f ns
+  rows-less f m [] e = refl
+  rows-less f m (n ∷ ns) e = elim (cases_key order n m) [
+    | inl s ↦ (let gap : f n ≡ None = ap f s ∙ e in rw (same_key order n m s, gap) (rows-less f m ns e))
+    | inr d ↦ elim (held (f n)) [
+      | Missing gap ↦ rw (other_key order n m d, gap) (rows-less f m ns e)
+      | Holding r is ↦ rw (other_key order n m d, is) (ap (λ rows. r ∷ rows) (rows-less f m ns e))
+    ]
   ]
 
   -- as many rows as keys, where each has one

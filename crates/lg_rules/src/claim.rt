@@ -1,7 +1,7 @@
 //! Claims about members, and their records.
 //!
 //! Defined in: `specs/Meaning/Claim.antt`.
-//! Tested in: `lg_detector_tests/src/rules.rt`.
+//! Tested in: `lg_parts_tests/src/rules.rt`.
 ghost use Rattle.std.specs.Prelude.{◌≡◌};
 ghost use Rattle.lg_rules.specs.Meaning.Claim.{accuser_of, is_gone, name_of};
 

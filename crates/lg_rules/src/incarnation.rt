@@ -1,7 +1,7 @@
 //! Incarnations.
 //!
 //! Defined in: this file.
-//! Tested in: `lg_detector_tests/src/rules.rt`.
+//! Tested in: `lg_parts_tests/src/rules.rt`.
 ghost use Rattle.std.specs.Prelude.{◌≡◌, ◌≤◌, ◌<◌, ◌+◌};
 ghost use Rattle.std.specs.Option.{SomeIff};
 

@@ -1,24 +1,24 @@
 //! The table of members: the records of the others, and what a claim about another member does to them.
 //!
 //! Defined in: `specs/Meaning/Table.antt`, `specs/Meaning/Rows.antt`.
-//! Tested in: `lg_detector_tests/src/rules.rt`.
-ghost use Rattle.std.specs.Prelude.{◌≡◌, ◌≢◌, ◌≤◌, ◌<◌, ◌+◌};
-ghost use Rattle.std.specs.Prelude.{ℕ, List, [], ◌∷◌, length, map, slice_get};
-ghost use Rattle.std.specs.Prelude.{option_copied, None, Some};
+//! Tested in: `lg_parts_tests/src/rules.rt`.
+ghost use Rattle.std.specs.Prelude.{◌≡◌, ◌≢◌, ◌≤◌, ◌<◌};
+ghost use Rattle.std.specs.Prelude.{ℕ, List, [], ◌∷◌, length, map, slice_get, slice_index_or};
+ghost use Rattle.std.specs.Prelude.{option_copied, None, Some, true, false};
 ghost use Rattle.lg_rules.specs.declared.claim.Claim.{Claim as Said};
 ghost use Rattle.lg_rules.specs.Meaning.Claim.{name_of};
-ghost use Rattle.lg_rules.specs.Meaning.Rows.{name_cmp, put_row, row_at, Rises};
-ghost use Rattle.lg_rules.specs.Support.Members.{live_weight};
-ghost use Rattle.lg_rules.specs.Support.Places.{HasRow, LacksRow};
-ghost use Rattle.arrayvec.specs.ArrayVec.{array_vec_len};
-ghost use Rattle.lg_rules.specs.Meaning.Table.{heard, hearing_of, known_of, live_in, standing_hearing};
-ghost use Rattle.lg_rules.specs.Meaning.Table.{names_heard, slot_in};
+ghost use Rattle.lg_rules.specs.Meaning.Own.{OwnFact, Told, Forgets, TakesLeave};
+ghost use Rattle.lg_rules.specs.Meaning.Rows.{name_cmp, is_among, row_at, Rises};
+ghost use Rattle.lg_rules.specs.Meaning.Table.{members_forgot, hearing_of, known_of, live_in, members_heard};
+ghost use Rattle.lg_rules.specs.Meaning.Table.{table_needs_room, slot_given_back, slot_in};
+ghost use Rattle.lg_rules.specs.Meaning.Table.{names_by_slot, record_of, roster};
+ghost use Rattle.lg_rules.specs.Meaning.Unforgotten.{first_known, first_record, slots_by_appearance};
 
-use crate::claim::{Claim, Record, Status};
+use crate::claim::{Claim, Record};
 use crate::name::Name;
-use crate::overriding::beats;
+use crate::records::{add, find_record, hear_known, is_unwelcome, take_out};
 use crate::rows::index_of;
-use crate::slots::{Slot, give_slot};
+use crate::slots::{FREE, Slot, free_place, give_slot, take_slot};
 use arrayvec::ArrayVec;
 use std::marker::Model;
 
@@ -38,7 +38,8 @@ pub enum Heard {
     Accused,
     /// It has the status and the incarnation of the record, and is no accusation. The table is as before.
     Same,
-    /// It says nothing new. The table is as before.
+    /// It says nothing new. Or it says of an unknown member that it is gone, and this member forgets. The table is as
+    /// before.
     Ignored,
     /// The member that it is about is unknown, and 255 others are known already. The table is as before.
     NoRoom,
@@ -46,15 +47,18 @@ pub enum Heard {
 
 /// The records of the other members, at most 255, in the order of their names.
 ///
-/// The others that are known are the first 255 that were heard of. None is ever removed. The record of a member is
-/// the first claim about it that no claim about it overrides (SWIM, section 4.2). No call allocates memory. A
-/// contract sees this member's name, the list of the records, and all names by order of appearance.
+/// A name is known from the first claim about it for which there is room, until it is forgotten. The record of a member
+/// is the first claim about it, since it became known, that no such claim overrides (SWIM, section 4.2). No call
+/// allocates memory. A contract sees this member's name, whether it forgets members, the list of the records, and for
+/// each slot the name that has it.
 #[derive(Debug, Drop)]
 pub struct Members {
     own: Name,
-    // The index of the record of each other name, by order of appearance. Fields lie in the order written here, so
-    // these bytes stand beside those of the own name.
+    // For each slot but the own one the index of its record, or `FREE`. Fields lie in the order written here, so these
+    // bytes stand beside those of the own name.
     indexes: [u8; MAX_OTHERS],
+    // Whether members that are gone are forgotten.
+    forgets: bool,
     records: ArrayVec<Record, MAX_OTHERS>,
     // The slot of each record's name.
     slots: ArrayVec<Slot, MAX_OTHERS>,
@@ -74,6 +78,7 @@ impl Model for Members {
 
     ghost view = { λ m. record {
       own = m.own;
+      forgets = m.forgets;
       table = m.records.items;
       names = held_names m.own (map name_of m.records.items) m.indexes;
     } };
@@ -81,87 +86,6 @@ impl Model for Members {
     ghost use Rattle.lg_rules.specs.Support.Members.{AreKept};
 
     ghost invariant = { λ m. AreKept m.own m.records.items m.live m.slots.items m.indexes };
-}
-
-/// The record of the member with this name, if there is one.
-fn find_record<'a>(records: &'a [Record], name: &Name) -> Option<&'a Record>
-    requires { Rises name_cmp (map name_of records.now) }
-    ensures { option_copied result ≡ row_at name_cmp name_of name.now records.now }
-{
-    match index_of(records, name) {
-        Ok(at) => Some(&records[at]),
-        Err(_) => None,
-    }
-}
-
-/// What hearing a claim does that doesn't override the current record of its member.
-fn standing_hearing(claim: &Claim, current: &Record) -> Heard
-    ensures { result ≡ standing_hearing claim.now (Some current.now) }
-{
-    if claim.incarnation != current.incarnation {
-        return Heard::Ignored;
-    }
-    match (claim.status, current.status) {
-        (Status::Alive, Status::Alive)
-        | (Status::Failed, Status::Failed)
-        | (Status::Left, Status::Left) => Heard::Same,
-        (Status::Suspect(_), Status::Suspect(_)) => Heard::Accused,
-        _ => Heard::Ignored,
-    }
-}
-
-/// What a record adds to the number of members that aren't gone.
-fn weight(status: Status) -> usize
-    ensures { result ≡ live_weight status }
-{
-    if status.is_gone() { 0 } else { 1 }
-}
-
-/// Replaces the record at an index by a claim that overrides it, and updates the number of members that aren't gone.
-fn replace(records: &mut ArrayVec<Record, MAX_OTHERS>, live: &mut usize, at: usize, claim: &Claim)
-    requires has { HasRow name_cmp name_of claim.now.name records.old.items at }
-    requires counted { live.old ≡ live_in records.old.items }
-    ensures rows { records.new.items ≡ put_row name_cmp name_of claim.now records.old.items }
-    ensures counted { live.new ≡ live_in records.new.items }
-{
-    *live -= weight(records[at].status);
-    *live += weight(claim.status);
-    records[at] = *claim;
-}
-
-/// Inserts a claim about an unknown member at its index, and updates the number of members that aren't gone.
-fn add(records: &mut ArrayVec<Record, MAX_OTHERS>, live: &mut usize, at: usize, claim: &Claim)
-    requires lacks { LacksRow name_cmp name_of claim.now.name records.old.items at }
-    requires room { array_vec_len records.old < MAX_OTHERS }
-    requires counted { live.old ≡ live_in records.old.items }
-    ensures rows { records.new.items ≡ put_row name_cmp name_of claim.now records.old.items }
-    ensures counted { live.new ≡ live_in records.new.items }
-{
-    *live += weight(claim.status);
-    records.insert(at, *claim);
-}
-
-/// Hears a claim about a member whose record is at an index, and updates the number of members that aren't gone.
-#[tactic(auto, unfolding(crate::specs::Meaning::Table::takes))]
-fn hear_known(
-    records: &mut ArrayVec<Record, MAX_OTHERS>,
-    live: &mut usize,
-    at: usize,
-    claim: &Claim,
-) -> Heard
-    requires has { HasRow name_cmp name_of claim.now.name records.old.items at }
-    requires counted { live.old ≡ live_in records.old.items }
-    ensures hearing { result ≡ hearing_of records.old.items claim.now }
-    ensures table { records.new.items ≡ heard records.old.items claim.now }
-    ensures names { map name_of records.new.items ≡ map name_of records.old.items }
-    ensures counted { live.new ≡ live_in records.new.items }
-{
-    if beats(claim, &records[at]) {
-        replace(records, live, at, claim);
-        Heard::Overrode
-    } else {
-        standing_hearing(claim, &records[at])
-    }
 }
 
 impl Members {
@@ -176,40 +100,39 @@ impl Members {
         Members {
             own: self.own,
             indexes: self.indexes,
+            forgets: self.forgets,
             records,
             slots,
             live: self.live,
         }
     }
 
-    /// The table of a member with this name, which knows no other member.
-    pub fn new(own: &Name) -> Members
-        ensures { result ≡ known_of own.now [] }
+    /// The table of a member with this name, which knows no other member. `forgets` says whether it forgets members
+    /// that are gone.
+    pub fn new(own: &Name, forgets: bool) -> Members
+        ensures { result ≡ known_of forgets own.now [] }
     {
         Members {
             own: *own,
-            indexes: [0; MAX_OTHERS],
+            indexes: [FREE; MAX_OTHERS],
+            forgets,
             records: ArrayVec::new(),
             slots: ArrayVec::new(),
             live: 1,
         }
     }
 
-    /// Forgets all that was heard, and starts over for a member with this name.
-    pub fn restart(&mut self, own: &Name)
-        ensures { self.new ≡ known_of own.now [] }
+    /// Drops all that was heard, and starts over for a member with this name. `forgets` says whether it forgets members
+    /// that are gone.
+    pub fn restart(&mut self, own: &Name, forgets: bool)
+        ensures { self.new ≡ known_of forgets own.now [] }
     {
-        let Members {
-            own: name,
-            records,
-            slots,
-            live,
-            ..
-        } = self;
-        *name = *own;
-        records.clear();
-        slots.clear();
-        *live = 1;
+        self.own = *own;
+        self.indexes = [FREE; MAX_OTHERS];
+        self.forgets = forgets;
+        self.records.clear();
+        self.slots.clear();
+        self.live = 1;
     }
 
     /// This member's name.
@@ -247,7 +170,7 @@ impl Members {
         ensures slot { result ≡ slot_in name.now self.now.names }
         ensures own { slot_in self.now.own self.now.names ≡ Some 0 }
         // At the slot of a name stands the name,
-        ensures named { (slot : ℕ) → result ≡ Some slot → slice_get self.now.names slot ≡ Some name.now }
+        ensures named { (slot : ℕ) → result ≡ Some slot → slice_index_or self.now.names slot None ≡ Some name.now }
         // and no other name has its slot.
         ensures alone { (slot : ℕ) (other : List ℕ) → result ≡ Some slot → slot_in other self.now.names ≡ Some slot
             → other ≡ name.now }
@@ -259,18 +182,18 @@ impl Members {
         }
     }
 
-    /// The name that has a slot, or `None` if no name has it. It takes no search.
+    /// The name that has a slot, or `None` if the slot is free. It takes no search.
     pub fn name_at(&self, slot: Slot) -> Option<&Name>
-        ensures name { option_copied result ≡ slice_get self.now.names slot }
+        ensures name { option_copied result ≡ slice_index_or self.now.names slot None }
         // The name that is found has this slot.
         ensures slot { (name : List ℕ) → option_copied result ≡ Some name → slot_in name self.now.names ≡ Some slot }
     {
         if slot == Slot::own() {
             return Some(&self.own);
         }
-        let other = usize::from(slot.number()) - 1;
-        if other < self.records.len() {
-            Some(&self.records[usize::from(self.indexes[other])].name)
+        let index = usize::from(self.indexes[usize::from(slot.number()) - 1]);
+        if index < self.records.len() {
+            Some(&self.records[index].name)
         } else {
             None
         }
@@ -288,34 +211,88 @@ impl Members {
 
     /// Hears a claim about another member.
     ///
-    /// A claim about an unknown member becomes its record if fewer than 255 others are known. A claim that overrides
-    /// the record replaces it, with its address and its accuser. A name that becomes known gets the next slot, and
-    /// keeps it until the restart.
+    /// A claim about an unknown member becomes its record if fewer than 255 others are known, unless this member
+    /// forgets and the claim says that its member is gone. A claim that overrides the record replaces it, with its
+    /// address and its accuser. A name that becomes known gets the lowest free slot, and keeps it until it is
+    /// forgotten.
     #[tactic(auto, unfolding(crate::specs::Meaning::Table::takes))]
     pub fn hear(&mut self, claim: &Claim) -> Heard
         requires { claim.now.name ≢ self.old.own }
-        ensures hearing { result ≡ hearing_of self.old.table claim.now }
-        ensures own { self.new.own ≡ self.old.own }
-        ensures table { self.new.table ≡ heard self.old.table claim.now }
-        ensures names { self.new.names ≡ names_heard self.old.names claim.now }
+        ensures hearing { result ≡ hearing_of self.old.forgets self.old.table claim.now }
+        ensures members { self.new ≡ members_heard self.old claim.now }
         // A slot keeps its name.
-        ensures kept { (slot : ℕ) (name : List ℕ) → slice_get self.old.names slot ≡ Some name
-            → slice_get self.new.names slot ≡ Some name }
-        // If the table was the one after some claims (the latest first), it is now the one after those and this one.
-        ensures past { (past : List Said) → let after = known_of self.old.own in
-            self.old ≡ after past → self.new ≡ after (claim.now ∷ past) }
-        // Claims about this member itself change nothing here.
-        ensures oneself { (past : List Said) (c : Said) → let after = known_of self.old.own in
-            c.name ≡ self.old.own → after (c ∷ past) ≡ after past }
+        ensures kept { (slot : ℕ) (name : List ℕ) → slice_index_or self.old.names slot None ≡ Some name
+            → slice_index_or self.new.names slot None ≡ Some name }
+        // If the table was the one after some facts (the latest first), it is now the one after those and this claim.
+        ensures past { (past : List OwnFact) → let after = known_of self.old.forgets self.old.own in
+            self.old ≡ after past → self.new ≡ after (Told claim.now ∷ past) }
+        // Claims about this member itself change nothing here, nor does its leave.
+        ensures oneself { (past : List OwnFact) (c : Said) → let after = known_of self.old.forgets self.old.own in
+            c.name ≡ self.old.own → after (Told c ∷ past) ≡ after past }
+        ensures leave { (past : List OwnFact) → let after = known_of self.old.forgets self.old.own in
+            after (TakesLeave ∷ past) ≡ after past }
     {
         match index_of(self.records.as_slice(), &claim.name) {
             Ok(at) => hear_known(&mut self.records, &mut self.live, at, claim),
-            Err(_) if self.records.is_full() => Heard::NoRoom,
-            Err(at) => {
-                add(&mut self.records, &mut self.live, at, claim);
-                give_slot(&mut self.slots, &mut self.indexes, at);
-                Heard::Overrode
+            Err(_) if is_unwelcome(self.forgets, claim.status) => Heard::Ignored,
+            Err(at) => match free_place(&self.indexes) {
+                None => Heard::NoRoom,
+                Some(free) => {
+                    add(&mut self.records, &mut self.live, at, claim);
+                    give_slot(&mut self.slots, &mut self.indexes, at, free);
+                    Heard::Overrode
+                }
+            },
+        }
+    }
+
+    /// Whether a claim about another member brings a member for which there is no room until one is forgotten: this
+    /// member forgets, 255 others are known, the claim's member is none of them, and isn't gone by the claim.
+    pub fn needs_room(&self, claim: &Claim) -> bool
+        ensures { result ≡ table_needs_room self.now claim.now }
+    {
+        match self.get(&claim.name) {
+            Some(_) => false,
+            None => self.forgets && self.records.is_full() && !claim.status.is_gone(),
+        }
+    }
+
+    /// Forgets another member: its record is dropped, its name is unknown, and its slot is free. All other members keep
+    /// their records and their slots. Returns the slot that it had. If it wasn't known, or is this member itself,
+    /// nothing changes, and `None` is returned.
+    pub fn forget(&mut self, name: &Name) -> Option<Slot>
+        ensures slot { result ≡ slot_given_back name.now self.old }
+        ensures members { self.new ≡ members_forgot name.now self.old }
+        // If the table was the one after some facts, it is now the one after those and this forgetting.
+        ensures past { (past : List OwnFact) → let after = known_of self.old.forgets self.old.own in
+            self.old ≡ after past → self.new ≡ after (Forgets name.now ∷ past) }
+        // The name of another has no slot from now on, and each other name keeps its own.
+        ensures gone { name.now ≢ self.old.own → slot_in name.now self.new.names ≡ None }
+        ensures others { (other : List ℕ) → other ≢ name.now
+            → slot_in other self.new.names ≡ slot_in other self.old.names }
+        // If the name was known, there is room now.
+        ensures room { (slot : ℕ) → result ≡ Some slot → length self.new.table < MAX_OTHERS }
+    {
+        if *name == self.own {
+            return None;
+        }
+        match index_of(self.records.as_slice(), name) {
+            Ok(at) => {
+                take_out(&mut self.records, &mut self.live, at);
+                Some(take_slot(&mut self.slots, &mut self.indexes, at))
             }
+            Err(_) => None,
         }
     }
 }
+
+/// A member that never forgets knows the first 255 others of whom it heard. The record of each is the earliest claim
+/// about it that no claim about it overrides, and the names have their slots by order of appearance. This is a law, and
+/// the call does nothing.
+pub fn nothing_is_forgotten()
+    ensures known { (own : List ℕ) (past : List Said) → roster false own (map Told past) ≡ first_known own past }
+    ensures records { (own name : List ℕ) (past : List Said) → is_among name_cmp name (first_known own past) ≡ true
+        → record_of false own (map Told past) name ≡ first_record past name }
+    ensures slots { (own : List ℕ) (past : List Said)
+        → names_by_slot false own (map Told past) ≡ slots_by_appearance own past }
+{}

@@ -1,7 +1,7 @@
 //! Names of members.
 //!
 //! Defined in: `specs/Meaning/Name.antt`.
-//! Tested in: `lg_detector_tests/src/rules.rt`.
+//! Tested in: `lg_parts_tests/src/rules.rt`.
 ghost use Rattle.std.specs.Prelude.{◌≡◌, nat_eq};
 ghost use Rattle.std.specs.Cmp.Lexicographic.{slice_cmp, pointwise};
 ghost use Rattle.std.specs.Ordering.{nat_cmp};

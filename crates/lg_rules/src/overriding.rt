@@ -1,7 +1,7 @@
 //! Which claim overrides which.
 //!
 //! Defined in: `specs/Meaning/Beats.antt`.
-//! Tested in: `lg_detector_tests/src/rules.rt`.
+//! Tested in: `lg_parts_tests/src/rules.rt`.
 ghost use Rattle.std.specs.Prelude.{◌≡◌};
 ghost use Rattle.lg_rules.specs.Meaning.Beats.{beats_of, is_later};
 

@@ -1,7 +1,7 @@
 //! What a member knows of itself, its incarnation above all.
 //!
 //! Defined in: `specs/Meaning/Own.antt`.
-//! Tested in: `lg_detector_tests/src/rules.rt`.
+//! Tested in: `lg_parts_tests/src/rules.rt`.
 ghost use Rattle.std.specs.Prelude.{◌≡◌, ◌≢◌, List, [], ◌∷◌, true, nat_lt, if◌then◌else◌};
 ghost use Rattle.lg_rules.specs.declared.claim.Claim.{Claim as Said};
 ghost use Rattle.lg_rules.specs.Meaning.Own.{OwnFact, Told, TakesLeave};

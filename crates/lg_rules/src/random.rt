@@ -1,7 +1,7 @@
 //! How many random words an event brings.
 //!
 //! Defined in: this file.
-//! Tested in: `lg_detector_tests/src/probe.rt`.
+//! Tested in: `lg_parts_tests/src/probe.rt`.
 
 /// The random words of an event that may need chance: 8 (this project's choice). One word chooses a target, or each
 /// picks one helper.

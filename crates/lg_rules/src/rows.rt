@@ -1,7 +1,7 @@
 //! Rows in rising order of their names: finding a row, and putting one in.
 //!
 //! Defined in: `specs/Meaning/Rows.antt`.
-//! Tested in: `lg_detector_tests/src/rules.rt`.
+//! Tested in: `lg_parts_tests/src/rules.rt`.
 ghost use Rattle.std.specs.Prelude.{◌≡◌, ◌<◌, ℕ, List, None, MatchResult, map};
 ghost use Rattle.std.specs.List.{prefix_len};
 ghost use Rattle.std.specs.Ordering.{is_lt};

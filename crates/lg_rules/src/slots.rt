@@ -1,18 +1,19 @@
-//! Slots: the known names as numbers, by order of appearance.
+//! Slots: the known names as numbers.
 //!
 //! Defined in: `specs/Meaning/Table.antt`.
-//! Tested in: `lg_detector_tests/src/rules.rt`.
-ghost use Rattle.std.specs.Prelude.{◌≡◌, ◌≤◌, ◌<◌, ◌+◌, ◌∷◌, ◌++◌, [], length, map, take, All, insert};
+//! Tested in: `lg_parts_tests/src/rules.rt`.
+ghost use Rattle.std.specs.Prelude.{◌≡◌, ◌≤◌, ◌<◌, ◌+◌, ◌==◌, map, insert, remove, slice_index_or, slice_set};
+ghost use Rattle.std.specs.List.{position};
 ghost use Rattle.arrayvec.specs.ArrayVec.{array_vec_len};
-ghost use Rattle.lg_rules.specs.Support.Slots.{indexes_with, moved_up};
+ghost use Rattle.lg_rules.specs.Support.Slots.{moved_down, moved_up};
 
 use crate::members::MAX_OTHERS;
 use arrayvec::ArrayVec;
 use std::alloc::AllocError;
 use std::marker::Model;
 
-/// The slot of a known name: how many names were known when this name was first heard of, 0 to 255 (this project's
-/// choice). This member's own name has slot 0. A slot is never given to another name.
+/// The slot of a known name, 0 to 255 (this project's choice): the lowest one that was free when this name became
+/// known. This member's own name has slot 0. As long as a name is known, its slot is given to no other name.
 ///
 /// A contract sees it as its number.
 #[derive(Debug)]
@@ -101,34 +102,88 @@ impl Slot {
     }
 }
 
-/// Moves each index up that isn't below the one at which a record was inserted.
-fn move_up(indexes: &mut [u8], at: u8)
-    requires { All (λ i. i < 255) indexes.old }
-    ensures { indexes.new ≡ map (moved_up at) indexes.old }
+/// The index of a free slot. It is that of no record, since there are at most 255.
+pub(crate) const FREE: u8 = 255;
+
+/// The index of a record once another one was inserted at an index.
+fn moved_up(index: u8, at: u8) -> u8
+    ensures { result ≡ moved_up at index }
 {
-    for index in indexes.iter_mut() {
-        if *index >= at {
-            *index += 1;
-        }
+    if at <= index && index < FREE {
+        index + 1
+    } else {
+        index
     }
 }
 
-/// Gives the next slot to a name whose record was inserted at an index.
+/// The index of a record once the one at an index was removed: a free slot's, if it is this one's.
+fn moved_down(index: u8, at: u8) -> u8
+    ensures { result ≡ moved_down at index }
+{
+    if index == at {
+        FREE
+    } else if at < index && index < FREE {
+        index - 1
+    } else {
+        index
+    }
+}
+
+/// Moves each index up that isn't below the one at which a record was inserted.
+fn move_up(indexes: &mut [u8], at: u8)
+    ensures { indexes.new ≡ map (moved_up at) indexes.old }
+{
+    for index in indexes.iter_mut() {
+        *index = moved_up(*index, at);
+    }
+}
+
+/// Frees the slot of a record that was removed at an index, and moves each index down that is above.
+fn move_down(indexes: &mut [u8], at: u8)
+    ensures { indexes.new ≡ map (moved_down at) indexes.old }
+{
+    for index in indexes.iter_mut() {
+        *index = moved_down(*index, at);
+    }
+}
+
+/// Where the first free slot is among the slots behind the own one, if one is free.
+pub(crate) fn free_place(indexes: &[u8]) -> Option<usize>
+    ensures { result ≡ position (λ i. i == FREE) indexes.now }
+{
+    indexes.iter().position(|index| *index == FREE)
+}
+
+/// Gives a free slot to a name whose record was inserted at an index.
 pub(crate) fn give_slot(
     slots: &mut ArrayVec<Slot, MAX_OTHERS>,
     indexes: &mut [u8; MAX_OTHERS],
     at: usize,
+    free: usize,
 )
     requires room { array_vec_len slots.old < MAX_OTHERS }
     requires within { at ≤ array_vec_len slots.old }
-    requires indexed { let known = array_vec_len slots.old in All (λ i. i < known) (take known indexes.old) }
-    ensures slots { slots.new.items ≡ insert slots.old.items at (array_vec_len slots.old + 1) }
-    ensures count { array_vec_len slots.new ≡ array_vec_len slots.old + 1 }
-    ensures indexes { let known = array_vec_len slots.old in
-        take (known + 1) indexes.new ≡ indexes_with at (take known indexes.old) }
+    requires free { free < MAX_OTHERS }
+    ensures slots { slots.new.items ≡ insert slots.old.items at (free + 1) }
+    ensures indexes { indexes.new ≡ slice_set (map (moved_up at) indexes.old) free at }
 {
-    let known = slots.len();
-    move_up(&mut indexes[..known], at as u8);
-    indexes[known] = at as u8;
-    slots.insert(at, Slot::new(known as u8 + 1));
+    move_up(indexes, at as u8);
+    indexes[free] = at as u8;
+    slots.insert(at, Slot::new(free as u8 + 1));
+}
+
+/// Frees the slot of a name whose record was removed at an index.
+pub(crate) fn take_slot(
+    slots: &mut ArrayVec<Slot, MAX_OTHERS>,
+    indexes: &mut [u8; MAX_OTHERS],
+    at: usize,
+) -> Slot
+    requires within { at < array_vec_len slots.old }
+    requires few { array_vec_len slots.old ≤ MAX_OTHERS }
+    ensures slot { result ≡ slice_index_or slots.old.items at result }
+    ensures slots { slots.new.items ≡ remove slots.old.items at }
+    ensures indexes { indexes.new ≡ map (moved_down at) indexes.old }
+{
+    move_down(indexes, at as u8);
+    slots.remove(at)
 }

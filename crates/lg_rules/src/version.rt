@@ -1,7 +1,7 @@
 //! The versions of the format of packets, and what each of them can tell.
 //!
 //! Defined in: `specs/Meaning/Version.antt`.
-//! Tested in: `lg_detector_tests/src/rules.rt`.
+//! Tested in: `lg_parts_tests/src/rules.rt`.
 ghost use Rattle.std.specs.Prelude.{◌≡◌, ◌≤◌};
 ghost use Rattle.lg_rules.specs.Meaning.Version.{most_claims_of, tells};
 

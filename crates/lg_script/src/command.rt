@@ -19,6 +19,11 @@ pub enum Command {
         /// Its new value. The range is judged when a member is opened.
         number: u64,
     },
+    /// Sets the group of the members that are opened later.
+    SetGroup {
+        /// Which group. Whether a member may belong to it is judged when the member is opened.
+        group: Name,
+    },
     /// Opens a member.
     Open {
         /// Its name.

@@ -8,6 +8,7 @@ ghost use Rattle.std.specs.Prelude.{◌≡◌, ◌≤◌, length};
 ghost use Rattle.std.specs.Option.{option_map};
 ghost use Rattle.lg_script.specs.Meaning.Commands.{ask_command, deliver_command, health_command, open_command};
 ghost use Rattle.lg_script.specs.Meaning.Commands.{leave_command, pull_command, command_named};
+ghost use Rattle.lg_script.specs.Meaning.Commands.{group_setting, number_setting};
 ghost use Rattle.lg_script.specs.Meaning.Commands.{set_command, table_command, tick_command};
 ghost use Rattle.lg_script.specs.Meaning.Values.{at_most_of, random_word_of, seeds_of, with_missing};
 ghost use Rattle.lg_script.specs.Meaning.Bounds.{random_words};
@@ -21,16 +22,35 @@ use arrayvec::ArrayVec;
 use lg_text::number_in;
 use lg_timing::{Key, MAX_SEEDS, Seed};
 
-/// `set KEY NUMBER`.
+/// `set KEY NUMBER`, given the key and the number.
+fn number_setting(key: &[u8], number: &[u8]) -> Option<Command>
+    ensures { result ≡ number_setting key.now number.now }
+{
+    let key = Key::named(key)?;
+    let number = number_in(number)?;
+    Some(Command::Set { key, number })
+}
+
+/// `set group NAME`, given the name.
+fn group_setting(name: &[u8]) -> Option<Command>
+    ensures { result ≡ group_setting name.now }
+{
+    let group = name_in(name)?;
+    Some(Command::SetGroup { group })
+}
+
+/// `set KEY NUMBER` or `set group NAME`.
 #[tactic(auto, unfolding(crate::specs::Meaning::Commands::set_command))]
 fn set_in(words: Option<&[u8]>) -> Option<Command>
     ensures { result ≡ set_command (words_left words.entry) }
 {
     let (key, words) = cut_word(words);
-    let (number, _) = cut_word(words);
-    let key = Key::named(key)?;
-    let number = number_in(number)?;
-    Some(Command::Set { key, number })
+    let (value, _) = cut_word(words);
+    if key == b"group".as_slice() {
+        group_setting(value)
+    } else {
+        number_setting(key, value)
+    }
 }
 
 /// `open NAME PORT MOMENT SEED..`.

@@ -8,7 +8,7 @@ ghost use Rattle.lg_script.specs.Meaning.Words.{takes_words, verb_of};
 /// Which command a line gives.
 #[derive(Clone, Copy, Debug, PartialEq, Eq)]
 pub(crate) enum Verb {
-    /// `set KEY NUMBER`.
+    /// `set KEY NUMBER` or `set group NAME`.
     Set,
     /// `open NAME PORT MOMENT SEED..`.
     Open,

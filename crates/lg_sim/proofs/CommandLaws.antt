@@ -4,13 +4,13 @@ use Rattle.std.specs.List.{cons_option}
 use Rattle.lg_timing.specs.declared.config.Config.{Config}
 use Rattle.lg_script.specs.Meaning.Lines.{command_of}
 use Rattle.lg_script.specs.declared.command.Command.{Command}
-use Rattle.lg_script.specs.declared.command.Command.TheVariants.{Set, Table}
+use Rattle.lg_script.specs.declared.command.Command.TheVariants.{Set, SetGroup, Table}
 use Rattle.lg_timing.specs.declared.keys.Key.{Key}
 use Rattle.lg_timing.specs.Meaning.Keys.{with_number}
 use Rattle.lg_script.specs.declared.fault.ScriptFault.{ScriptFault}
 use Rattle.lg_sim.specs.Meaning.Members.{Happening}
 use Rattle.lg_sim.specs.Meaning.Outcome.{happening_text, text_of}
-use Rattle.lg_sim.specs.Meaning.Past.{happenings, opened, settings}
+use Rattle.lg_sim.specs.Meaning.Past.{happenings, in_group, opened, settings}
 use Rattle.lg_sim.specs.Meaning.Text.{fault_said, line_fault, text_said, with_said}
 use Rattle.lg_sim.specs.Support.After.{IsClusterAfter, IsCluster, LedOn, RanCommand, RanLine, StopsAt}
 use Rattle.lg_sim.specs.declared.cluster.Cluster.{Cluster}
@@ -37,6 +37,17 @@ ran_set old new text before key number after changed = record {
   after =
       subst (λ (cluster : Cluster). IsClusterAfter cluster (Set key number ∷ before)) (sym changed) (record {
         settings_are = ap (λ (numbers : Config). with_number key number numbers) after.settings_are;
+        is = after.is;
+      });
+  writes = sym (append-nil text);
+}
+
+pub ran_set_group : (old new : Cluster) (text : List ℕ) (before : List Command) (group : List ℕ) → IsClusterAfter old before
+    → new ≡ record old { settings = in_group group old.settings } → RanCommand new text text before (SetGroup group)
+ran_set_group old new text before group after changed = record {
+  after =
+      subst (λ (cluster : Cluster). IsClusterAfter cluster (SetGroup group ∷ before)) (sym changed) (record {
+        settings_are = ap (λ (usual : Config). in_group group usual) after.settings_are;
         is = after.is;
       });
   writes = sym (append-nil text);

@@ -11,7 +11,8 @@ ghost use Rattle.lg_lines.specs.Meaning.Records.{table_text};
 ghost use Rattle.lg_sim.specs.Meaning.Members.{Happening, events_of, is_at, is_named, member_named};
 ghost use Rattle.lg_sim.specs.Meaning.Members.{packet_number, sent};
 ghost use Rattle.lg_sim.specs.Meaning.Outcome.{naming_fault, opening_fault, packet_fault};
-ghost use Rattle.lg_sim.specs.Meaning.Past.{at_named, delivered, arrival, new_member, opening_config, unset};
+ghost use Rattle.lg_sim.specs.Meaning.Past.{at_named, delivered, arrival, in_group, new_member};
+ghost use Rattle.lg_sim.specs.Meaning.Past.{opening_config, unset};
 ghost use Rattle.lg_timing.specs.Meaning.Keys.{with_number};
 ghost use Rattle.lg_sim.specs.Support.After.{IsCluster, IsClusterReached, LedOn, StopsAt, delivery_of, fault_in};
 ghost use Rattle.lg_detector.specs.declared.event.Event.TheVariants as Happened;
@@ -65,7 +66,8 @@ pub struct NewMember {
 /// A cluster of members, each with its detector.
 #[derive(Drop)]
 pub struct Cluster {
-    /// The numbers for the members that are opened next. The name, address and seeds in it are placeholders.
+    /// The numbers and the group of the members that are opened next. The name, address and seeds in it are
+    /// placeholders.
     settings: Config,
     /// The members, in the order in which they were opened: at most [`MAX_CLUSTER`].
     hosts: Vec<Host>,
@@ -92,6 +94,13 @@ impl Cluster {
         ensures { self.new ≡ record self.old { settings = with_number key number self.old.settings } }
     {
         self.settings.set(key, number);
+    }
+
+    /// Sets the group of the members that are opened later.
+    pub fn set_group(&mut self, group: Name)
+        ensures { self.new ≡ record self.old { settings = in_group group self.old.settings } }
+    {
+        self.settings.group = Some(group);
     }
 
     /// The place of the member with a name, if there is one.

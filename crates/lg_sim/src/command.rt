@@ -35,6 +35,10 @@ pub fn run_command(
             cluster.set(key, number);
             Ok(())
         }
+        Command::SetGroup { group } => {
+            cluster.set_group(group);
+            Ok(())
+        }
         Command::Open {
             name,
             port,

@@ -61,10 +61,10 @@ unfolding changes_behind
 kept_first old new events none on = on (events, refl) none
 
 -- a snapshot that shows a reading has a row for each fault
-rows_of : (rows : List Drops) → AreOfFaults rows → length rows ≡ 12
+rows_of : (rows : List Drops) → AreOfFaults rows → length rows ≡ 13
 rows_of rows are = sym (length-map rows (λ row. row.fault.now)) ∙ ap length are
 
-rows_read : (s : Snapshot) (reading : Reading) → HasRead s reading → length s.dropped.items ≡ 12
+rows_read : (s : Snapshot) (reading : Reading) → HasRead s reading → length s.dropped.items ≡ 13
 rows_read s reading read = rows_of s.dropped.items read.faults_are
 
 leaves_through : (p q p' : PassValue) (s s' : Snapshot) (c c' : Changes) → IsLook p q → LeavesLook q p' s s' c c' → LeavesLook p p' s s' c c'
@@ -239,12 +239,12 @@ site_look r site p' s' new c' changed' reading is went tells same read =
     let both = shows_both r site p' s' new c' changed' reading went tells same read is.0 is.1 in
     (both.0, both.2)
 
-rows_left : (site : SiteValue) (s' : Snapshot) → IsSite site → s' ≡ site.snapshot → length s'.dropped.items ≡ 12
+rows_left : (site : SiteValue) (s' : Snapshot) → IsSite site → s' ≡ site.snapshot → length s'.dropped.items ≡ 13
 rows_left site s' is same = ap (λ (s : Snapshot). length s.dropped.items) same ∙ rows_read site.snapshot is.1.is_shown.reading is.1.is_shown.read
 
 -- a site has a row for each fault, also after a look
 rows_look : (r : Looked) (site : SiteValue) (p' : PassValue) (s' : Snapshot) (c' : Changes) → IsSite site
-    → LooksAs r site.pass p' site.snapshot s' site.changes c' → length s'.dropped.items ≡ 12
+    → LooksAs r site.pass p' site.snapshot s' site.changes c' → length s'.dropped.items ≡ 13
 rows_look Same site p' s' c' is went = rows_left site s' is went.0.snapshot
 rows_look Taken site p' s' c' is went = rows_read s' is.1.is_shown.reading (went.same.read is.1.is_shown.reading is.1.is_shown.read)
 rows_look Refused site p' s' c' is went = rows_left site s' is went.snapshot

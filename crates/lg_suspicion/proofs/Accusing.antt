@@ -3,7 +3,7 @@ use Rattle.std.proofs.Common.{◌≡◌, ℕ, ◌≤◌, ◌<◌, Bool, true, fa
 use Rattle.std.proofs.Common.{length, Option, Some, sym, ap, ◌∙◌, refl, arith}
 use Rattle.std.proofs.lemmas.Bool.{le-leb, lt-leb}
 use Rattle.lg_rules.specs.Meaning.Rows.{name_cmp, is_among}
-use Rattle.lg_rules.specs.Meaning.Table.{slot_in}
+use Rattle.lg_rules.specs.Meaning.Slots.{slot_in}
 use Rattle.lg_rules.proofs.PastLaws.{neither}
 use Rattle.lg_timing.specs.Meaning.TimeoutValue.{TimeoutValue}
 use Rattle.lg_suspicion.specs.Meaning.Accusers.{SuspicionValue, suspicion_after, accuser_counts, accused, deadline_of}
@@ -11,6 +11,7 @@ use Rattle.lg_suspicion.specs.Meaning.Parts.{SuspicionParts, accuser_count, accu
 use Rattle.lg_suspicion.specs.Support.Accusers.{has_slot}
 use Rattle.lg_suspicion.proofs.AccuserLaws.{accused-after}
 use Rattle.lg_suspicion.proofs.DeadlineLaws.{deadline-falls}
+use Rattle.lg_rules.proofs.SlotLaws.{Slots}
 use Rattle.lg_suspicion.proofs.KnownAccusers.{among-accusers, parts_with, count-with, accusers-with, known-with}
 
 -- An accuser that doesn't count changes nothing.
@@ -31,7 +32,7 @@ or_true : (a : Bool) → (a || true) ≡ true
 or_true true = refl
 or_true false = refl
 
-module _ (names : List (List ℕ)) (parts : SuspicionParts) (a : List ℕ) (known : IsKnownTo names parts) where
+module _ (names : Slots) (parts : SuspicionParts) (a : List ℕ) (known : IsKnownTo names parts) where
   -- It doesn't if as many count as may,
   pub too_late : (n : ℕ) → n ≡ accuser_count parts → parts.timeout.confirmations < n
       → accuser_counts (suspicion_by names parts) a ≡ false
@@ -59,7 +60,7 @@ module _ (names : List (List ℕ)) (parts : SuspicionParts) (a : List ℕ) (know
       again slot refl (ap (λ b. has_slot slot parts.members || b) there ∙ or_true (has_slot slot parts.members))
 
 -- An accuser is new, and fewer count than may: it counts, and is one more of them.
-pub record IsNew (names : List (List ℕ)) (parts : SuspicionParts) (a : List ℕ) (slot : Option ℕ) : Type 0 where
+pub record IsNew (names : Slots) (parts : SuspicionParts) (a : List ℕ) (slot : Option ℕ) : Type 0 where
   pub known : IsKnownTo names parts
   pub has : slot ≡ slot_in a names
   pub new : (has_slot slot parts.members || is_among name_cmp a parts.named) ≡ false
@@ -69,7 +70,7 @@ pub record IsNew (names : List (List ℕ)) (parts : SuspicionParts) (a : List �
   pub most : parts.timeout.confirmations ≤ 5
   pub some : 1 ≤ accuser_count parts
 
-module _ {names : List (List ℕ)} {parts : SuspicionParts} {a : List ℕ} {slot : Option ℕ}
+module _ {names : Slots} {parts : SuspicionParts} {a : List ℕ} {slot : Option ℕ}
     (is : IsNew names parts a slot) where
   pub counts : accuser_counts (suspicion_by names parts) a ≡ true
   counts =

@@ -7,16 +7,18 @@
 //! longer. If no confirmation may count, since there are few members, the timeout is the least one from the start.
 //!
 //! The first accuser is kept by its name, as the record of the member has it too. Another one that is known when it
-//! accuses is kept as its slot, in a set. A stranger is kept by its name, stays so if it becomes known later, and
-//! doesn't count again.
+//! accuses is kept as its slot, in a set, until its name is forgotten: then it is kept by its name. A stranger is kept
+//! by its name, stays so if it becomes known later, and doesn't count again.
 //!
 //! Defined in: `specs/Meaning/Accusers.antt`, `specs/Meaning/Parts.antt`,
 //! `lg_timing/specs/Meaning/Timeouts.antt`.
-//! Tested in: `lg_detector_tests/src/suspicion.rt`.
-ghost use Rattle.std.specs.Prelude.{◌≡◌, ℕ, ◌≤◌, ◌<◌, ◌+◌, ◌||◌, List, [], ◌∷◌, ◌++◌, length, option_copied, Some};
+//! Tested in: `lg_parts_tests/src/suspicion.rt`.
+ghost use Rattle.std.specs.Prelude.{◌≡◌, ℕ, ◌≤◌, ◌<◌, ◌+◌, ◌||◌, Bool, false, List, [], ◌∷◌, ◌++◌, length, slice_set};
+ghost use Rattle.std.specs.Prelude.{option_copied, Option, Some};
 ghost use Rattle.arrayvec.specs.ArrayVec.{array_vec_len};
 ghost use Rattle.lg_rules.specs.declared.claim.Claim.{Claim as Said};
 ghost use Rattle.lg_rules.specs.Meaning.Rows.{name_cmp, is_among};
+ghost use Rattle.lg_rules.specs.Meaning.Slots.{free_slot, freed, is_held, slot_in};
 ghost use Rattle.lg_rules.specs.Meaning.Table.{names_heard};
 ghost use Rattle.lg_timing.specs.Meaning.Config.{IsChecked};
 ghost use Rattle.lg_timing.specs.Meaning.TimeoutValue.{TimeoutValue};
@@ -24,7 +26,7 @@ ghost use Rattle.lg_timing.specs.Meaning.Timeouts.{range_of};
 ghost use Rattle.lg_suspicion.specs.Meaning.Accusers.{suspicion_after, accuser_counts, accused};
 ghost use Rattle.lg_suspicion.specs.Meaning.Accusers.{deadline_of, deadline_by_set, set_of};
 ghost use Rattle.lg_suspicion.specs.Meaning.Parts.{SuspicionParts, suspicion_by, accuser_count};
-ghost use Rattle.lg_suspicion.specs.Meaning.Parts.{deadline_of_parts, IsKnownTo};
+ghost use Rattle.lg_suspicion.specs.Meaning.Parts.{deadline_of_parts, IsKnownTo, parts_without};
 ghost use Rattle.lg_suspicion.specs.Support.Accusers.{has_slot, members_with, named_with};
 
 use arrayvec::ArrayVec;
@@ -150,14 +152,14 @@ impl Suspicion {
         requires within { live ≤ MAX_LIVE }
 
         // Whichever names have the slots,
-        ensures raised { (names : List (List ℕ)) → suspicion_by names result
+        ensures raised { (names : List (Option (List ℕ))) → suspicion_by names result
             ≡ record { raised = now; timeout = range_of live config.now; accusers = accuser.now ∷ [] } }
 
         // it is the suspicion after one accuser.
-        ensures first { (names : List (List ℕ)) → suspicion_by names result
+        ensures first { (names : List (Option (List ℕ))) → suspicion_by names result
             ≡ suspicion_after now (range_of live config.now) (accuser.now ∷ []) }
 
-        ensures known { (names : List (List ℕ)) → IsKnownTo names result }
+        ensures known { (names : List (Option (List ℕ))) → IsKnownTo names result }
     {
         let mut named = ArrayVec::new();
         let first = *accuser;
@@ -188,8 +190,8 @@ impl Suspicion {
     }
 
     /// Takes one more accusation, and returns whether its accuser counts. It counts if fewer accusers count than may,
-    /// and it isn't one of them. Otherwise nothing changes. `members` is this member's table, in which each name still
-    /// has the slot that it had when the suspicion was raised.
+    /// and it isn't one of them. Otherwise nothing changes. `members` is this member's table, in which each
+    /// accuser that is kept as its slot still has it.
     pub fn accuse(&mut self, accuser: &Name, members: &Members) -> bool
         requires known { IsKnownTo members.now.names self.old }
 
@@ -224,17 +226,38 @@ impl Suspicion {
         true
     }
 
+    /// Forgets that a name has a slot, which is freed. If the slot is among the accusers, the accuser is kept by this
+    /// name from now on. It counts as before, and the deadline stays.
+    pub fn forget_slot(&mut self, slot: Slot, name: &Name)
+        ensures parts { self.new ≡ parts_without slot name.now self.old }
+
+        // By the names that are left, it is the suspicion that it was by those before.
+        ensures known { (names : List (Option (List ℕ))) → slot_in name.now names ≡ Some slot → IsKnownTo names self.old
+            → IsKnownTo (freed name.now names) self.new }
+        ensures same { (names : List (Option (List ℕ))) → slot_in name.now names ≡ Some slot → IsKnownTo names self.old
+            → suspicion_by (freed name.now names) self.new ≡ suspicion_by names self.old }
+        ensures deadline { deadline_of_parts self.new ≡ deadline_of_parts self.old }
+    {
+        // The checker learns here how many confirmations may count, so that there is room for the name.
+        let _ = self.timeout.confirmations();
+        if !self.members.contains(slot.number()) {
+            return;
+        }
+        self.members.remove(slot.number());
+        self.named.push(*name);
+    }
+
     /// When the member is taken as failed: the moment of the raise plus the timeout after the confirmations, which
     /// are the accusers that count without the first. It is at most [`MAX_DEADLINE`] milliseconds.
     pub fn deadline(&self) -> u64
         ensures parts { result ≡ deadline_of_parts self.now }
 
         // By whichever names have the slots, it is the deadline of the suspicion.
-        ensures deadline { (names : List (List ℕ)) → IsKnownTo names self.now
+        ensures deadline { (names : List (Option (List ℕ))) → IsKnownTo names self.now
             → result ≡ deadline_of (suspicion_by names self.now) }
 
         // After any list of accusers, the deadline is the one of their set.
-        ensures by_set { (names past : List (List ℕ)) → IsKnownTo names self.now
+        ensures by_set { (names : List (Option (List ℕ))) (past : List (List ℕ)) → IsKnownTo names self.now
             → suspicion_by names self.now ≡ suspicion_after self.now.raised self.now.timeout past
             → result ≡ deadline_by_set self.now.raised self.now.timeout (set_of past) }
 
@@ -253,12 +276,14 @@ pub fn deadlines_are_by_the_set()
         → deadline_of (suspicion_after raised timeout past) ≡ deadline_of (suspicion_after raised timeout other) }
 {}
 
-/// Names that get the next slots leave each suspicion as it is: its accusers keep their names. So does a claim that the
+/// A name that gets a free slot leaves each suspicion as it is: its accusers keep their names. So does a claim that the
 /// table of members hears. This is a law, and the call does nothing.
 pub fn accusers_keep_their_names()
-    ensures grown { (names more : List (List ℕ)) (parts : SuspicionParts) → IsKnownTo names parts
-        → IsKnownTo (names ++ more) parts × (suspicion_by (names ++ more) parts ≡ suspicion_by names parts) }
-    ensures heard { (names : List (List ℕ)) (claim : Said) (parts : SuspicionParts) → IsKnownTo names parts
-        → let after = names_heard names claim in
+    ensures given { (names : List (Option (List ℕ))) (name : List ℕ) (slot : ℕ) (parts : SuspicionParts)
+        → free_slot names ≡ Some slot → is_held name names ≡ false → IsKnownTo names parts
+        → let after = slice_set names slot (Some name) in
+        IsKnownTo after parts × (suspicion_by after parts ≡ suspicion_by names parts) }
+    ensures heard { (taken : Bool) (names : List (Option (List ℕ))) (claim : Said) (parts : SuspicionParts)
+        → IsKnownTo names parts → let after = names_heard taken names claim in
         IsKnownTo after parts × (suspicion_by after parts ≡ suspicion_by names parts) }
 {}

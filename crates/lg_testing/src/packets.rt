@@ -1,4 +1,4 @@
-//! Packets of members whose names are one letter.
+//! Packets of members whose names are one letter, and whether two packets are equal.
 use crate::claims::letter;
 use arrayvec::ArrayVec;
 use lg_packet::{Body, Packet, Version};
@@ -40,4 +40,13 @@ pub fn ack(number: u32) -> Body {
         number,
         receiver: None,
     }
+}
+
+/// Whether two packets are equal.
+pub fn is_same_packet(one: &Packet, other: &Packet) -> bool {
+    one.version == other.version
+        && one.group == other.group
+        && one.sender == other.sender
+        && one.body == other.body
+        && one.claims.as_slice() == other.claims.as_slice()
 }

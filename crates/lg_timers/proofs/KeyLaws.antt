@@ -9,7 +9,7 @@ use Rattle.lg_rules.proofs.Cases.{Below, Tied, Above, compared}
 use Rattle.lg_rules.proofs.KeyOrder.{names_order, key_is, same_key}
 use Rattle.lg_timers.specs.declared.timer.Timer.{Timer}
 use Rattle.lg_timers.specs.declared.timer.TimerId.{TimerId}
-use Rattle.lg_timers.specs.declared.timer.TimerId.TheVariants.{RoundEnd, Suspicion, Direct, RelayNack, RelayEnd, RoundStart, Gossip}
+use Rattle.lg_timers.specs.declared.timer.TimerId.TheVariants.{RoundEnd, Suspicion, Direct, RelayNack, RelayEnd, RoundStart, Forget, Gossip}
 use Rattle.lg_timers.specs.Meaning.Timers.{id_key, timer_key, timer_cmp, has_id, is_set}
 
 first : List ℕ → ℕ
@@ -25,6 +25,7 @@ id_is Direct Direct e = refl
 id_is (RelayNack m) (RelayNack n) e = let same : m ≡ n = cc in ap RelayNack same
 id_is (RelayEnd m) (RelayEnd n) e = let same : m ≡ n = cc in ap RelayEnd same
 id_is RoundStart RoundStart e = refl
+id_is (Forget m) (Forget n) e = let same : m ≡ n = cc in ap Forget same
 id_is Gossip Gossip e = refl
 id_is i j e = let kinds : first (id_key i) ≡ first (id_key j) = ap first e in absurd (omega arith)
 

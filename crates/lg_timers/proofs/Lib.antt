@@ -1,4 +1,5 @@
 pub mod CancelLaws
+pub mod Forgetting
 pub mod HeapLaws
 pub mod KeyLaws
 pub mod Levels

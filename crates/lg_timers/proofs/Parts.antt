@@ -117,7 +117,7 @@ without-parts id A B C D E F G H a b c d = without-in_turn id (A ++ (B ++ (C ++ 
     all = filter-append (λ t. not (has_id id t)) A (B ++ (C ++ D)) ∙ (λ i. a i ++ later i)
 
 -- a timer that stands behind some others in no order
-in_turn-middle : (t : Timer) (A B : List Timer) → in_turn (A ++ t ∷ B) ≡ with_timer t (in_turn (A ++ B))
+pub in_turn-middle : (t : Timer) (A B : List Timer) → in_turn (A ++ t ∷ B) ≡ with_timer t (in_turn (A ++ B))
 unfolding in_turn
 in_turn-middle t A B = in_turn-permutation (A ++ t ∷ B) (t ∷ A ++ B) (IsPermutation-middle A t B)
 

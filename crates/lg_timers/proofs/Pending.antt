@@ -134,7 +134,7 @@ without-above key m (x ∷ rows) a =
     rw other (ap (λ rs. x ∷ rs) (without-above key m rows a.1))
 
 -- which lists are among those of the rows, once a row is put in its place
-among-put_row : {R : Type 0} (key : R → List ℕ) (f : R → List ℕ) (k : List ℕ) (r : R) (rows : List R) → Rises name_cmp (map key rows)
+pub among-put_row : {R : Type 0} (key : R → List ℕ) (f : R → List ℕ) (k : List ℕ) (r : R) (rows : List R) → Rises name_cmp (map key rows)
     → is_among name_cmp k (map f (put_row name_cmp key r rows)) ≡ (is_same name_cmp (f r) k || is_among name_cmp k (map f (without_row name_cmp key (key r) rows)))
 among-put_row key f k r [] s = refl
 among-put_row key f k r (x ∷ rows) s = elim (compared (name_cmp (key r) (key x))) [

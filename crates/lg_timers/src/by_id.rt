@@ -1,7 +1,7 @@
 //! The slots that are in use, in the order of their timers' ids: finding a timer by its id.
 //!
 //! Defined in: `specs/Support/Slots.antt`.
-//! Tested in: `lg_detector_tests/src/timers.rt`.
+//! Tested in: `lg_parts_tests/src/timers.rt`.
 ghost use Rattle.std.specs.Prelude.{◌<◌, MatchResult, length, map};
 ghost use Rattle.std.specs.List.{All};
 ghost use Rattle.lg_rules.specs.Meaning.Rows.{name_cmp, Rises};

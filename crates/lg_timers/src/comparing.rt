@@ -1,7 +1,7 @@
 //! What compares timers: it counts its comparisons, or it counts nothing.
 //!
 //! Defined in: `specs/Meaning/Timers.antt`.
-//! Tested in: `lg_detector_tests/src/timers.rt`.
+//! Tested in: `lg_parts_tests/src/timers.rt`.
 use crate::steps::Steps;
 use crate::timer::Timer;
 

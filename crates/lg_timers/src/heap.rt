@@ -1,7 +1,7 @@
 //! The slots that are in use, as a heap.
 //!
 //! Defined in: `specs/Support/Heap.antt`, `specs/Support/Slots.antt`.
-//! Tested in: `lg_detector_tests/src/timers.rt`.
+//! Tested in: `lg_parts_tests/src/timers.rt`.
 ghost use Rattle.std.specs.Prelude.{◌≡◌, ◌<◌, ◌≤◌, ◌+◌, ◌*◌, ◌^◌, ◌∷◌, None, Some, IsPermutation};
 ghost use Rattle.std.specs.Prelude.{length, take, slice_index, slice_set};
 ghost use Rattle.std.specs.List.{swap};

@@ -1,7 +1,7 @@
 //! How many comparisons of timers were made.
 //!
 //! Defined in: this file.
-//! Tested in: `lg_detector_tests/src/timers.rt`.
+//! Tested in: `lg_parts_tests/src/timers.rt`.
 ghost use Rattle.std.specs.Prelude.{◌≡◌, ◌<◌, ◌+◌, ◌^◌};
 ghost use Rattle.std.specs.Ordering.{is_lt};
 ghost use Rattle.lg_timers.specs.Meaning.Timers.{timer_cmp};

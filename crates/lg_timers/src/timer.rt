@@ -1,7 +1,7 @@
 //! One timer: its id and its deadline.
 //!
 //! Defined in: `specs/Meaning/Timers.antt`.
-//! Tested in: `lg_detector_tests/src/timers.rt`.
+//! Tested in: `lg_parts_tests/src/timers.rt`.
 use lg_rules::Name;
 use std::cmp::Ordering;
 
@@ -24,6 +24,8 @@ pub enum TimerId {
     RelayEnd(u32),
     /// A round of probing starts (SWIM, section 3.1).
     RoundStart,
+    /// This member, which failed or left, is forgotten (this project's choice).
+    Forget(Name),
     /// News is gossiped (SWIM, section 4.1, by packets of its own; this project's choice).
     Gossip,
 }
@@ -50,7 +52,7 @@ impl TimerId {
         self.cmp(other)
     }
 
-    /// Its kind as a number, 1 to 7 in the order in which the kinds stand above.
+    /// Its kind as a number, 1 to 8 in the order in which the kinds stand above.
     fn kind(&self) -> u8
         ensures { result ≡ kind_number self.now }
     {
@@ -61,7 +63,8 @@ impl TimerId {
             TimerId::RelayNack(_) => 4,
             TimerId::RelayEnd(_) => 5,
             TimerId::RoundStart => 6,
-            TimerId::Gossip => 7,
+            TimerId::Forget(_) => 7,
+            TimerId::Gossip => 8,
         }
     }
 }
@@ -72,7 +75,7 @@ impl Timer {
     ghost use Rattle.lg_timers.specs.Meaning.Timers.{kind_number, timer_cmp};
 
     /// Its kind as a number: the end of a round 1, a suspicion 2, asking helpers 3, the nack of a relay 4, the end of
-    /// a relay 5, the start of a round 6, the gossip 7.
+    /// a relay 5, the start of a round 6, forgetting a member 7, the gossip 8.
     pub fn kind(&self) -> u8
         ensures { result ≡ kind_number self.now.id }
     {

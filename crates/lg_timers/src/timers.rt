@@ -1,11 +1,11 @@
 //! The set of timers.
 //!
 //! Defined in: `specs/Meaning/Timers.antt`.
-//! Tested in: `lg_detector_tests/src/timers.rt`.
+//! Tested in: `lg_parts_tests/src/timers.rt`.
 ghost use Rattle.std.specs.Prelude.{◌≡◌, ◌<◌, ◌≤◌, ◌+◌, ◌^◌, false, [], length};
 ghost use Rattle.lg_timers.specs.Meaning.Timers.{is_set, with_timer, without_timer};
-ghost use Rattle.lg_timers.specs.Meaning.Timers.{least_of, due_of, timers_left};
-ghost use Rattle.lg_timers.specs.Support.InTurn.{IsTimerSet};
+ghost use Rattle.lg_timers.specs.Meaning.Timers.{least_of, due_of, first_forget, timers_left};
+ghost use Rattle.lg_timers.specs.Support.InTurn.{IsTimerSet, earlier_forget};
 
 use crate::by_id::index_of;
 use crate::comparing::{Comparer, Uncounted};
@@ -54,6 +54,19 @@ impl Default for Timers {
 
     fn default() -> Self {
         Timers::new()
+    }
+}
+
+/// The first timer that forgets a member, by the first of some timers that does, and one more timer.
+fn earlier_forget(first: Option<Timer>, timer: &Timer) -> Option<Timer>
+    ensures { result ≡ earlier_forget first timer.now }
+{
+    if !matches!(timer.id, TimerId::Forget(_)) {
+        return first;
+    }
+    match first {
+        Some(first) if first.is_before(timer) => Some(first),
+        _ => Some(*timer),
     }
 }
 
@@ -218,6 +231,18 @@ impl Timers {
             return None;
         }
         Some(timer)
+    }
+
+    /// The first of the timers that forget a member, or `None` if none is set. The timer stays set. This goes over all
+    /// timers that are set.
+    pub fn first_forget(&self) -> Option<Timer>
+        ensures { result ≡ first_forget self.now }
+    {
+        let mut first = None;
+        for slot in self.by_id.as_slice() {
+            first = earlier_forget(first, &self.timers[usize::from(*slot)]);
+        }
+        first
     }
 
     /// Takes out the first of the timers that are due, and no other. A timer is due if its deadline isn't after

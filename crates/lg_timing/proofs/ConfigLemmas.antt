@@ -5,7 +5,7 @@ use Rattle.std.proofs.lemmas.Bool.{eqb-true, leb-true}
 use Rattle.std.proofs.lemmas.List.Folds.{list_all_at}
 use Rattle.lg_rules.proofs.Tests.{both}
 use Rattle.lg_timing.specs.declared.config.Config.{Config}
-use Rattle.lg_timing.specs.Meaning.Config.{is_within, is_seed, are_good_seeds, first_broken, fault_checked, check_of}
+use Rattle.lg_timing.specs.Meaning.Config.{is_within, is_seed, are_good_seeds, can_name_group, first_broken, fault_checked, check_of}
 use Rattle.lg_timing.specs.Meaning.Config.{IsChecked}
 use Rattle.lg_timing.specs.Meaning.Keys.{is_before_seeds, is_in_range, keys, row_of}
 use Rattle.lg_timing.specs.declared.config.ConfigFault.{ConfigFault}
@@ -35,12 +35,18 @@ in_place c ks i within h = step (is_in_range c (get_or ks i IntervalMs)) refl
 abbrev fault_of : Bool → ConfigFault → Result (Unit {0}) ConfigFault
 fault_of before broken = if before then Err broken else Err Seeds
 
--- a fault is none only if no key is out of its range, and the seeds are good
-no_fault : (broken : Option Key) (good : Bool) → fault_checked broken good ≡ Ok tt → (broken ≡ None) × (good ≡ true)
-no_fault None true e = (refl, refl)
-no_fault None false e = absurd cc
-no_fault (Some key) true e = absurd cc
-no_fault (Some key) false e = absurd (is_err (is_before_seeds key) (row_of key).fault e)
+-- a fault is none only if no key is out of its range, and the seeds and the group are good
+pub record Faultless (broken : Option Key) (good named : Bool) : Type 0 where
+  pub broken_none : broken ≡ None
+  pub good_true : good ≡ true
+  pub named_true : named ≡ true
+
+no_fault : (broken : Option Key) (good named : Bool) → fault_checked broken good named ≡ Ok tt → Faultless broken good named
+no_fault None true true e = record { broken_none = refl; good_true = refl; named_true = refl }
+no_fault None true false e = absurd cc
+no_fault None false named e = absurd cc
+no_fault (Some key) true named e = absurd cc
+no_fault (Some key) false named e = absurd (is_err (is_before_seeds key) (row_of key).fault e)
   where
     is_err : (before : Bool) (broken : ConfigFault) → fault_of before broken ≡ Ok tt → ⊥
     is_err true broken e = cc
@@ -71,8 +77,8 @@ not_true false e = refl
 pub ranges : (c : Config) → IsChecked c → HasRanges c
 unfolding check_of
 ranges c e =
-    let whole = no_fault (first_broken c) (are_good_seeds c.name c.seeds.items) e in
-    let all = none_broken c keys whole.0 in
+    let whole = no_fault (first_broken c) (are_good_seeds c.name c.seeds.items) (can_name_group c.group c.wire) e in
+    let all = none_broken c keys whole.broken_none in
     let at = λ (i : ℕ) (within : i < length keys). in_place c keys i within all in
     let interval = is_between 10 60000 c.interval_ms (at 0 (omega arith)) in
     let timeout = is_between 1 (c.interval_ms - 1) c.timeout_ms (at 1 (omega arith)) in
@@ -82,8 +88,9 @@ ranges c e =
     let nack = is_between 1 999 c.nack_thousandths (at 8 (omega arith)) in
     let history = is_between 2 1000000 c.history_limit (at 9 (omega arith)) in
     let wire = is_between 1 3 c.wire (at 10 (omega arith)) in
-    let gossip_to = is_between 1 8 c.gossip_to (at 12 (omega arith)) in
-    let seeds = both _ _ whole.1 in
+    let gossip_to = is_between 1 8 c.gossip_to (at 13 (omega arith)) in
+    let first = is_between 1 4294967295 c.first (at 14 (omega arith)) in
+    let seeds = both _ _ whole.good_true in
     let names = both _ _ seeds.1 in
     record {
       interval_least = interval.low;
@@ -105,9 +112,13 @@ ranges c e =
       history_most = history.high;
       wire_least = wire.low;
       wire_most = wire.high;
-      gossip_most = zero_or_most 10 60000 c.gossip_ms (at 11 (omega arith));
+      forget_most = zero_or_most 1000 2592000000 c.forget_ms (at 11 (omega arith));
+      gossip_most = zero_or_most 10 60000 c.gossip_ms (at 12 (omega arith));
       gossip_to_least = gossip_to.low;
       gossip_to_most = gossip_to.high;
+      first_least = first.low;
+      first_most = first.high;
+      group_named = whole.named_true;
       seeds_most = leb-true (length c.seeds.items) 16 seeds.0;
       seeds_distinct = names.0;
       seeds_others = not_true (is_seed c.name c.seeds.items) names.1;

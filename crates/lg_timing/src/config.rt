@@ -1,9 +1,10 @@
 //! The configuration of a member, and its check.
 //!
 //! Defined in: `specs/Meaning/Config.antt`, `specs/Meaning/Keys.antt`.
-//! Tested in: `lg_detector_tests/src/timing.rt`.
+//! Tested in: `lg_parts_tests/src/timing.rt`.
 ghost use Rattle.std.specs.Prelude.{◌≡◌};
-ghost use Rattle.lg_timing.specs.Meaning.Config.{is_within, is_seed, have_distinct_names, are_good_seeds, version_of};
+ghost use Rattle.lg_timing.specs.Meaning.Config.{is_within, is_seed, have_distinct_names, are_good_seeds};
+ghost use Rattle.lg_timing.specs.Meaning.Config.{can_name_group, version_of, does_forget};
 
 use crate::keys::{KEYS, Key};
 use arrayvec::ArrayVec;
@@ -46,6 +47,13 @@ pub const MIN_WIRE: u64 = 1;
 /// The newest version of the format of packets: 3 (this project's choice).
 pub const MAX_WIRE: u64 = 3;
 
+/// The shortest time for which a member that failed or left is kept, in milliseconds: 1,000 (this project's choice).
+pub const MIN_FORGET_MS: u64 = 1000;
+
+/// The longest time for which a member that failed or left is kept, in milliseconds: 2,592,000,000, which is thirty
+/// days (this project's choice).
+pub const MAX_FORGET_MS: u64 = 2_592_000_000;
+
 /// The shortest time that news waits for its first gossip, in milliseconds: 10 (this project's choice).
 pub const MIN_GOSSIP_MS: u64 = 10;
 
@@ -54,6 +62,12 @@ pub const MAX_GOSSIP_MS: u64 = 60_000;
 
 /// The most members that a gossip goes to: 8 (this project's choice).
 pub const MAX_GOSSIP_TO: u64 = 8;
+
+/// The least first number of a probe: 1 (this project's choice).
+pub const MIN_FIRST: u64 = 1;
+
+/// The greatest number of a probe: 4,294,967,295, which is the greatest that four bytes hold (this project's choice).
+pub const MAX_FIRST: u64 = 4_294_967_295;
 
 /// The most seeds of a configuration: 16 (this project's choice).
 pub const MAX_SEEDS: usize = 16;
@@ -107,18 +121,27 @@ pub enum ConfigFault {
     /// `wire` isn't 1 to 3. The faults of a file that means no configuration have the numbers between.
     #[error("wire has to be {least} to {most}", least = MIN_WIRE, most = MAX_WIRE)]
     Wire = 15,
+    /// `forget_ms` is neither 0 nor 1,000 to 2,592,000,000.
+    #[error("forget_ms has to be 0 or {least} to {most}", least = MIN_FORGET_MS, most = MAX_FORGET_MS)]
+    Forget = 22,
     /// `gossip_ms` is neither 0 nor 10 to 60,000.
     #[error("gossip_ms has to be 0 or {least} to {most}", least = MIN_GOSSIP_MS, most = MAX_GOSSIP_MS)]
     GossipMs = 23,
     /// `gossip_to` isn't 1 to 8.
     #[error("gossip_to has to be 1 to {most}", most = MAX_GOSSIP_TO)]
     GossipTo = 24,
+    /// `first` isn't 1 to 4,294,967,295.
+    #[error("first has to be {least} to {most}", least = MIN_FIRST, most = MAX_FIRST)]
+    First = 25,
+    /// A member of a group has a `wire` other than 3. Its own group would drop what it sends.
+    #[error("a member of a group has to have wire = {most}", most = MAX_WIRE)]
+    Group = 26,
 }
 
 impl ConfigFault {
     ghost use Rattle.lg_timing.specs.Meaning.Keys.{config_fault_number};
 
-    /// The number of the fault: 1 to 11, 15, 23 and 24. A check looks for the faults in the order of their numbers.
+    /// The number of the fault: 1 to 11, 15, and 22 to 26. A check looks for the faults in the order of their numbers.
     pub fn number(self) -> u8
         ensures { result ≡ config_fault_number self }
     {
@@ -158,11 +181,20 @@ pub struct Config {
     pub history_limit: u64,
     /// In which version of the format the member writes its packets: 1 to 3 (this project's choice).
     pub wire: u64,
+    /// How long a member that failed or left is kept before it is forgotten, in milliseconds: 0 (nothing is forgotten)
+    /// or 1,000 to 2,592,000,000 (this project's choice).
+    pub forget_ms: u64,
     /// How long news waits for its first gossip, in milliseconds: 0 (no gossip) or 10 to 60,000 (this project's
     /// choice).
     pub gossip_ms: u64,
     /// To how many members a gossip goes: 1 to 8 (this project's choice).
     pub gossip_to: u64,
+    /// The first number of probes and relays: 1 to 4,294,967,295. Behind the greatest number comes 1 (this project's
+    /// choice).
+    pub first: u64,
+    /// The group of members that the member belongs to, if it has one. It has to have `wire` 3 then (this project's
+    /// choice).
+    pub group: Option<Name>,
     /// The members that are known from the start: at most 16, with different names, none of them the member's own.
     pub seeds: ArrayVec<Seed, MAX_SEEDS>,
     /// The member's name.
@@ -225,8 +257,11 @@ impl Config {
             nack_thousandths: Key::NackThousandths.row().default,
             history_limit: Key::HistoryLimit.row().default,
             wire: Key::Wire.row().default,
+            forget_ms: Key::ForgetMs.row().default,
             gossip_ms: Key::GossipMs.row().default,
             gossip_to: Key::GossipTo.row().default,
+            first: Key::First.row().default,
+            group: None,
             seeds: ArrayVec::new(),
             name,
             addr,
@@ -254,6 +289,13 @@ impl Config {
         }
     }
 
+    /// Whether the member forgets members that failed or left: `forget_ms` isn't 0.
+    pub fn does_forget(&self) -> bool
+        ensures { result ≡ does_forget self.now }
+    {
+        self.forget_ms > 0
+    }
+
     /// The number of a key.
     pub fn number(&self, key: Key) -> u64
         ensures { result ≡ number_of_key key self.now }
@@ -270,8 +312,10 @@ impl Config {
             Key::NackThousandths => self.nack_thousandths,
             Key::HistoryLimit => self.history_limit,
             Key::Wire => self.wire,
+            Key::ForgetMs => self.forget_ms,
             Key::GossipMs => self.gossip_ms,
             Key::GossipTo => self.gossip_to,
+            Key::First => self.first,
         }
     }
 
@@ -291,8 +335,10 @@ impl Config {
             Key::NackThousandths => self.nack_thousandths = number,
             Key::HistoryLimit => self.history_limit = number,
             Key::Wire => self.wire = number,
+            Key::ForgetMs => self.forget_ms = number,
             Key::GossipMs => self.gossip_ms = number,
             Key::GossipTo => self.gossip_to = number,
+            Key::First => self.first = number,
         }
     }
 
@@ -320,8 +366,19 @@ impl Config {
         keys.iter().copied().find(|key| !self.is_in_range(*key))
     }
 
-    /// Checks that the number of each key is in its range, and that the seeds are good. The error is the first fault.
-    /// The numbers are judged in the order of [`KEYS`], and the seeds behind `history_limit` and before `wire`.
+    /// Whether the member may belong to its group, if it has one: only packets of version 3 name a group.
+    fn can_name_group(&self) -> bool
+        ensures { result ≡ can_name_group self.now.group self.now.wire }
+    {
+        match self.group {
+            Some(_) => self.wire == MAX_WIRE,
+            None => true,
+        }
+    }
+
+    /// Checks that the number of each key is in its range, that the seeds are good, and that a member of a group has
+    /// `wire` 3. The error is the first fault. The numbers are judged in the order of [`KEYS`], the seeds behind
+    /// `history_limit` and before `wire`, and the group last.
     #[tactic(auto, unfolding(crate::specs::Meaning::Config::check_of))]
     pub fn check(&self) -> Result<(), ConfigFault>
         ensures { result ≡ check_of self.now }
@@ -329,7 +386,8 @@ impl Config {
         let are_good = are_good_seeds(&self.name, &self.seeds);
         match self.first_broken(&KEYS) {
             Some(key) if are_good || key.is_before_seeds() => Err(key.row().fault),
-            None if are_good => Ok(()),
+            None if are_good && self.can_name_group() => Ok(()),
+            None if are_good => Err(ConfigFault::Group),
             _ => Err(ConfigFault::Seeds),
         }
     }

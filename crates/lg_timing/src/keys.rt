@@ -1,15 +1,16 @@
 //! The keys of the configuration's numbers: one table of their names, ranges, defaults and faults.
 //!
 //! Defined in: `specs/Meaning/Keys.antt`.
-//! Tested in: `lg_detector_tests/src/timing.rt`, `cases/config_probes.case`, `cases/sim_commands.case`.
+//! Tested in: `lg_parts_tests/src/timing.rt`, `cases/config_probes.case`, `cases/sim_commands.case`.
 ghost use Rattle.std.specs.Prelude.{◌≡◌};
 ghost use Rattle.lg_timing.specs.Meaning.Keys.{has_key_name, is_allowed_by, allows_number, is_before_seeds};
 ghost use Rattle.lg_timing.specs.Meaning.Keys.{key_named, key_name, row, row_or_off, row_of};
 
 use crate::config::{
-    ConfigFault, MAX_CONFIRMATIONS, MAX_FACTOR, MAX_GOSSIP_MS, MAX_GOSSIP_TO, MAX_HISTORY_LIMIT,
-    MAX_INDIRECT, MAX_INTERVAL_MS, MAX_NACK_THOUSANDTHS, MAX_SCORE, MAX_WIRE, MIN_GOSSIP_MS,
-    MIN_HISTORY_LIMIT, MIN_INTERVAL_MS, MIN_NACK_THOUSANDTHS, MIN_WIRE, is_within,
+    ConfigFault, MAX_CONFIRMATIONS, MAX_FACTOR, MAX_FIRST, MAX_FORGET_MS, MAX_GOSSIP_MS,
+    MAX_GOSSIP_TO, MAX_HISTORY_LIMIT, MAX_INDIRECT, MAX_INTERVAL_MS, MAX_NACK_THOUSANDTHS,
+    MAX_SCORE, MAX_WIRE, MIN_FIRST, MIN_FORGET_MS, MIN_GOSSIP_MS, MIN_HISTORY_LIMIT,
+    MIN_INTERVAL_MS, MIN_NACK_THOUSANDTHS, MIN_WIRE, is_within,
 };
 use lg_rules::MAX_LAMBDA;
 
@@ -38,15 +39,19 @@ pub enum Key {
     HistoryLimit,
     /// `wire`.
     Wire,
+    /// `forget_ms`.
+    ForgetMs,
     /// `gossip_ms`.
     GossipMs,
     /// `gossip_to`.
     GossipTo,
+    /// `first`.
+    First,
 }
 
 /// All keys, in the order in which [`crate::Config::check`] judges their numbers. It is that of the numbers of their
 /// faults. The seeds are judged before [`Key::Wire`].
-pub const KEYS: [Key; 13] = [
+pub const KEYS: [Key; 15] = [
     Key::IntervalMs,
     Key::TimeoutMs,
     Key::Indirect,
@@ -58,8 +63,10 @@ pub const KEYS: [Key; 13] = [
     Key::NackThousandths,
     Key::HistoryLimit,
     Key::Wire,
+    Key::ForgetMs,
     Key::GossipMs,
     Key::GossipTo,
+    Key::First,
 ];
 
 /// What the table says of a key's number.
@@ -128,8 +135,10 @@ impl Key {
             Key::NackThousandths => "nack_thousandths",
             Key::HistoryLimit => "history_limit",
             Key::Wire => "wire",
+            Key::ForgetMs => "forget_ms",
             Key::GossipMs => "gossip_ms",
             Key::GossipTo => "gossip_to",
+            Key::First => "first",
         }
     }
 
@@ -164,8 +173,10 @@ impl Key {
                 ConfigFault::History,
             ),
             Key::Wire => row(MIN_WIRE, MAX_WIRE, 1, ConfigFault::Wire),
+            Key::ForgetMs => row_or_off(MIN_FORGET_MS, MAX_FORGET_MS, 0, ConfigFault::Forget),
             Key::GossipMs => row_or_off(MIN_GOSSIP_MS, MAX_GOSSIP_MS, 200, ConfigFault::GossipMs),
             Key::GossipTo => row(1, MAX_GOSSIP_TO, 3, ConfigFault::GossipTo),
+            Key::First => row(MIN_FIRST, MAX_FIRST, 1, ConfigFault::First),
         }
     }
 

@@ -1,7 +1,7 @@
 //! Moments: times in whole milliseconds.
 //!
 //! Defined in: this file.
-//! Tested in: `lg_detector_tests/src/timing.rt`.
+//! Tested in: `lg_parts_tests/src/timing.rt`.
 ghost use Rattle.std.specs.Prelude.{◌≡◌, ◌≤◌, max};
 ghost use Rattle.std.specs.Option.{SomeIff};
 

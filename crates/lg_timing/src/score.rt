@@ -1,7 +1,7 @@
 //! The health score, and how it lengthens the interval and the timeout of a probe.
 //!
 //! Defined in: `specs/Meaning/Score.antt`, `specs/Meaning/Config.antt`.
-//! Tested in: `lg_detector_tests/src/timing.rt`.
+//! Tested in: `lg_parts_tests/src/timing.rt`.
 ghost use Rattle.std.specs.Prelude.{◌≡◌, ◌≢◌, ◌≤◌, ℤ, pos, negsuc};
 ghost use Rattle.std.specs.Prelude.{◌≤ℤ◌, ◌+◌, ◌*◌, List, ◌∷◌};
 ghost use Rattle.lg_timing.specs.Meaning.Config.{IsChecked};

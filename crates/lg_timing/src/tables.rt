@@ -1,7 +1,7 @@
 //! The tables of logarithms by which suspicion timeouts are computed.
 //!
 //! Defined in: `specs/Meaning/Tables.antt`.
-//! Tested in: `lg_detector_tests/src/timing.rt`, `cases/timeouts.case`.
+//! Tested in: `lg_parts_tests/src/timing.rt`, `cases/timeouts.case`.
 ghost use Rattle.std.specs.Prelude.{◌≡◌, ℕ, ◌+◌, ◌≤◌};
 ghost use Rattle.lg_timing.specs.Meaning.Tables.{IsLog, range_end, log10_of, ratio_of};
 

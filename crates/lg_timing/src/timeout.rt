@@ -1,7 +1,7 @@
 //! How long a suspicion lasts: the suspicion timeout, and how confirmations shorten it.
 //!
 //! Defined in: `specs/Meaning/Timeouts.antt`, `specs/Meaning/TimeoutValue.antt`, `specs/Meaning/Config.antt`.
-//! Tested in: `lg_detector_tests/src/timing.rt`, `cases/timeouts.case`.
+//! Tested in: `lg_parts_tests/src/timing.rt`, `cases/timeouts.case`.
 ghost use Rattle.std.specs.Prelude.{◌≡◌, ◌≤◌};
 ghost use Rattle.lg_timing.specs.Meaning.Config.{IsChecked};
 ghost use Rattle.lg_timing.specs.Meaning.Timeouts.{confirmations_of, range_of, timeout_of, suspicion_of};

@@ -2,8 +2,9 @@
 //!
 //! Defined in: `lg_detector/specs/Meaning/Step.antt`, `specs/Meaning/Changes.antt`, `specs/Support/Updates.antt`.
 //! Tested in: `lg_agent_tests/src/view/looks.rt`.
-ghost use Rattle.std.specs.Prelude.{◌≡◌, ◌+◌, ◌∷◌, ◌++◌, ℕ, List, [], length, IfOk, Some};
+ghost use Rattle.std.specs.Prelude.{◌≡◌, ◌+◌, ◌∷◌, ◌++◌, ℕ, List, [], filter, length, map, IfOk, Some};
 ghost use Rattle.lg_changes.specs.declared.change.Change.{Change as Changed};
+ghost use Rattle.lg_changes.specs.Meaning.Changes.{forgotten_at};
 ghost use Rattle.lg_changes.specs.Meaning.Kept.{HasBehind, KeepsNewest};
 ghost use Rattle.lg_rules.specs.Meaning.Claim.{name_of};
 ghost use Rattle.lg_rules.specs.Meaning.Rows.{name_cmp, row_at};
@@ -11,7 +12,7 @@ ghost use Rattle.lg_detector.specs.declared.event.Event.{Event as Happened};
 ghost use Rattle.lg_detector.specs.Meaning.Step.{view_after, deadline_after, moment_after, own_standing_after};
 ghost use Rattle.lg_detector.specs.Meaning.Step.{reply_after};
 ghost use Rattle.lg_detector.specs.Support.Step.{state_after};
-ghost use Rattle.lg_view.specs.Meaning.Changes.{changes_at, changes_of};
+ghost use Rattle.lg_view.specs.Meaning.Changes.{changes_at, changes_of, is_unknown_after};
 ghost use Rattle.lg_view.specs.Support.Updates.{taken_events};
 
 use crate::book::PairName;
@@ -30,14 +31,14 @@ use std::marker::Model;
 /// contract sees it as the front.
 ///
 /// `left_right` keeps two of them: readers read one while the writer advances the other. Each takes the memory of a
-/// detector, the room for [`MAX_CHANGES`](lg_changes::MAX_CHANGES) changes, and some 5 KB for a reply.
+/// detector, the room for [`MAX_CHANGES`](lg_changes::MAX_CHANGES) changes, and some 12 KB for a reply.
 #[derive(Drop)]
 pub struct Published<P: PairName> {
     detector: Detector,
     front: Front<P>,
     changes: Changes,
-    // The reply to the last event. It tells which records changed, and nobody reads the rest of it. It is kept, since
-    // making one for each event would take longer than most events do.
+    // The reply to the last event. It tells who was forgotten and which records changed, and nobody reads the rest of
+    // it. It is kept, since making one for each event would take longer than most events do.
     reply: Box<Reply>,
 }
 
@@ -138,7 +139,23 @@ impl<P: PairName> Published<P> {
     }
 }
 
-/// Keeps what an event changed, which had this reply. The detector is after the event, and there are so many events.
+/// Keeps those of some names that are unknown: they were forgotten, and then there were so many events. A name that is
+/// known again isn't kept: its record is, if it has changed.
+fn keep_unknown(detector: &Detector, names: &[Name], version: u64, changes: &mut Changes)
+    ensures { (f : List Happened) → (all : List Changed) → detector.now ≡ state_after f → KeepsNewest changes.old all
+        → KeepsNewest changes.new
+        (all ++ map (forgotten_at version (moment_after f)) (filter (is_unknown_after f) names.now)) }
+{
+    let moment = detector.moment();
+    for name in names {
+        if detector.record_of(name).is_none() {
+            changes.keep_forgotten(version, moment, &[*name]);
+        }
+    }
+}
+
+/// Keeps whom an event forgot and which records it changed. This was its reply, the detector is after it, and there are
+/// so many events.
 fn keep_changes(
     detector: &Detector,
     event: &Event,
@@ -151,6 +168,7 @@ fn keep_changes(
         → KeepsNewest changes.new (all ++ changes_at f event.now) }
 {
     let moment = detector.moment();
+    keep_unknown(detector, &reply.forgotten, version, changes);
     match event {
         Event::Open { .. } => {
             let mut table = ArrayVec::<Record, MAX_MEMBERS>::new();

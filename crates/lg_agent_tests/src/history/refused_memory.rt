@@ -2,8 +2,8 @@
 //! memory: `gate/refusals` runs each test once for each allocation, with that one refused.
 use super::rows::{Row, all, opening, ping, question};
 use crate::comparing::is_same_event;
+use lg_detector_testing::is_same_reply;
 use lg_history::{Entry, History};
-use lg_testing::is_same_reply;
 use std::alloc::Global;
 
 /// Whether an entry has this seat and what a row has.

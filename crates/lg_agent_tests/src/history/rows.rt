@@ -1,5 +1,8 @@
 //! Made-up events and replies: each kind of event, each part of a reply, and what takes the most memory.
-use lg_detector::{Answer, Event, MAX_SENDS, Outgoing, Reply, Sends, Timer, TimerId};
+use arrayvec::ArrayVec;
+use lg_detector::{
+    Answer, Event, MAX_FORGOTTEN, MAX_SENDS, Outgoing, Reply, Sends, Timer, TimerId,
+};
 use lg_packet::{Body, Version};
 use lg_rules::{Addr, Claim, Incarnation, Name, Status};
 use lg_testing::{ack, alive, at, claim, failed, letter, local, packet, said, suspect};
@@ -44,6 +47,17 @@ fn eight(body: &Body, claims: &[Claim]) -> Sends {
         }
     }
     sends
+}
+
+/// The names of some letters.
+fn names(letters: &[u8]) -> ArrayVec<Name, MAX_FORGOTTEN> {
+    let mut names = ArrayVec::new();
+    for one in letters {
+        if !names.is_full() {
+            names.push(letter(*one));
+        }
+    }
+    names
 }
 
 /// A packet of a that is heard at a moment.
@@ -155,6 +169,22 @@ fn suspicion() -> Row {
     }
 }
 
+/// c, which has failed at 9500, is forgotten at 10,500, and no record changes.
+fn forgetting() -> Row {
+    let (deadline, id) = (10_500, TimerId::Forget(letter(b'c')));
+    let mut reply = nothing(10_900);
+    reply.fired = Some(Timer { deadline, id });
+    reply.forgotten = names(b"c");
+    Row {
+        event: Event::Tick {
+            now: at(10_500),
+            words: [0; 8],
+        },
+        reply,
+        chosen: None,
+    }
+}
+
 /// b asks the member at port 7002 for its table, and tells of itself.
 fn pull() -> Row {
     let (now, peer): (_, Addr) = (at(5), local(7002));
@@ -197,7 +227,7 @@ fn ousting() -> Row {
     }
 }
 
-/// Six claims come in, change six records, and go out with each of eight requests.
+/// Six claims come in, change six records, and go out with each of eight requests. Twelve members are forgotten.
 fn full() -> Row {
     let (number, target, addr) = (4_294_967_295, letter(b'c'), local(65535));
     let claims = [
@@ -216,6 +246,7 @@ fn full() -> Row {
     let mut reply = nothing(u64::MAX);
     reply.sends = eight(&body, &claims);
     reply.changed = said(&claims);
+    reply.forgotten = names(b"ijklmnopqrst");
     Row {
         event: heard(10, body, &claims),
         reply,
@@ -224,7 +255,7 @@ fn full() -> Row {
 }
 
 /// All of them.
-pub(super) fn all() -> [Row; 11] {
+pub(super) fn all() -> [Row; 12] {
     [
         opening(),
         ping(),
@@ -233,6 +264,7 @@ pub(super) fn all() -> [Row; 11] {
         health(),
         round_start(),
         suspicion(),
+        forgetting(),
         pull(),
         leave(),
         ousting(),

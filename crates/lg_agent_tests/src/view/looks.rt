@@ -5,11 +5,11 @@ ghost use Rattle.lg_view.specs.Meaning.Views.{begins_open};
 
 use super::keeper::Keeper;
 use super::playing::{Outcome, Play, Shown, told};
-use super::{ping_of_a, says, tick};
-use lg_changes::{Behind, Change};
+use super::{ping_of_a, says, tick, tick_at};
+use lg_changes::{Altered, Behind, Change};
 use lg_detector::{Event, Standing};
 use lg_rules::Claim;
-use lg_testing::{alive, at, incarnation, letter, local, suspect};
+use lg_testing::{alive, at, failed, incarnation, letter, local, suspect};
 use lg_timing::Config;
 use lg_view::{Look, PairName};
 use std::alloc::Global;
@@ -17,10 +17,10 @@ use std::ops::Range;
 use std::sync::Wait;
 
 /// The outcome of each check in [`NAMES`].
-pub(super) type Checks = [bool; 18];
+pub(super) type Checks = [bool; 19];
 
 /// What has to hold.
-const NAMES: [&str; 18] = [
+const NAMES: [&str; 19] = [
     "a told reader has seen the opening",
     "the first deadline is 0",
     "the version is 1",
@@ -39,9 +39,10 @@ const NAMES: [&str; 18] = [
     "all changes are told",
     "1,025 changes more are heard",
     "the first of these is no longer kept, and the others are",
+    "that c fails and is forgotten are the last changes",
 ];
 
-/// Opens b, and tells both looks of it.
+/// Opens b, which forgets who is gone after one second, and tells both looks of it.
 fn opens<P: PairName, R: Wait>(
     rt: &R,
     alloc: Global,
@@ -52,10 +53,9 @@ fn opens<P: PairName, R: Wait>(
     requires { keeper.old ≡ [] }
     ensures { OnTrue result ((begins_open one.new ≡ true) × (begins_open two.new ≡ true)) }
 {
-    let opening = Event::Open {
-        now: at(0),
-        config: Config::new(letter(b'b'), local(7000)),
-    };
+    let mut config = Config::new(letter(b'b'), local(7000));
+    config.forget_ms = 1000;
+    let opening = Event::Open { now: at(0), config };
     keeper.take(rt, alloc, &opening) && keeper.tell(one) && keeper.tell(two)
 }
 
@@ -89,16 +89,22 @@ fn look_on<P: PairName, R: Wait>(
         tells(alloc, two, 0, &all_changes()),
         hears_more(rt, alloc, keeper),
         keeps_the_newest(alloc, two),
+        tells_who_is_forgotten(rt, alloc, keeper, two),
     ]
 }
 
-/// A change of c or of b, with how many events there were then and the moment.
-fn change(version: u64, now: u64, member: Claim) -> Change {
+/// What was altered, with how many events there were then and the moment.
+fn altered(version: u64, now: u64, altered: Altered) -> Change {
     Change {
         version,
         moment: at(now),
-        member,
+        altered,
     }
+}
+
+/// A change of the record of c or of b.
+fn change(version: u64, now: u64, member: Claim) -> Change {
+    altered(version, now, Altered::Recorded(member))
 }
 
 /// The suspicion of c and its end, 10 ms later.
@@ -152,11 +158,66 @@ fn keeps_the_newest<P: PairName>(alloc: Global, look: &mut Look<P>) -> bool {
     match (&fifth.changes, &sixth.changes) {
         (Behind::Missed(_), Behind::All(rows)) => {
             rows.len() == 1024
-                && rows.iter().zip(MORE.skip(1)).all(|(row, incarnation)| row.member
-                    == alive(b'c', incarnation))
+                && rows.iter().zip(MORE.skip(1)).all(|(row, incarnation)| row.altered
+                    == Altered::Recorded(alive(b'c', incarnation)))
         }
         _ => false,
     }
+}
+
+/// That c fails and is forgotten one second later, behind a version.
+fn gone_behind(version: u64) -> [Change; 2] {
+    [
+        change(version.saturating_add(1), 430, failed(b'c', 1027)),
+        altered(
+            version.saturating_add(5),
+            1430,
+            Altered::Forgotten(letter(b'c')),
+        ),
+    ]
+}
+
+/// Whether b hears that c fails, ticks through its round, and forgets c.
+fn forgets_c<P: PairName, R: Wait>(rt: &R, alloc: Global, keeper: &mut Keeper<P>) -> bool {
+    if !keeper.take(rt, alloc, &says(430, failed(b'c', 1027))) {
+        return false;
+    }
+    // The round's target isn't acked, the round ends, the next one starts, and c is forgotten.
+    for _ in 0..4 {
+        if !keeper.take(rt, alloc, &tick_at(1430)) {
+            return false;
+        }
+    }
+    true
+}
+
+/// Whether a look tells just these changes behind a version.
+fn tells_just<P: PairName>(
+    alloc: Global,
+    look: &mut Look<P>,
+    version: u64,
+    wanted: &[Change],
+) -> bool {
+    let Ok(found) = look.overview(alloc, version) else {
+        return false;
+    };
+    match &found.changes {
+        Behind::All(rows) => rows.as_slice() == wanted,
+        Behind::Missed(_) => false,
+    }
+}
+
+/// Whether b forgets c once it has failed, and a look tells just that.
+fn tells_who_is_forgotten<P: PairName, R: Wait>(
+    rt: &R,
+    alloc: Global,
+    keeper: &mut Keeper<P>,
+    look: &mut Look<P>,
+) -> bool {
+    let Ok(before) = look.version() else {
+        return false;
+    };
+    forgets_c(rt, alloc, keeper) && tells_just(alloc, look, before, &gone_behind(before))
 }
 
 /// Whether b and c are the members, as a look sees them, and b knows of itself that nothing was held against it.

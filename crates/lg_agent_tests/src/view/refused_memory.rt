@@ -3,7 +3,7 @@
 use super::keeper::Keeper;
 use super::opening;
 use super::playing::{Play, Shown, told};
-use lg_changes::Behind;
+use lg_changes::{Altered, Behind};
 use lg_detector::Event;
 use lg_testing::{alive, at};
 use lg_view::{Look, MembersFault, PairFault, PairName};
@@ -46,7 +46,7 @@ fn has_change<P: PairName>(alloc: Global, look: &mut Look<P>) -> Result<bool, Me
     let found = look.overview(alloc, 0)?;
     match &found.changes {
         Behind::All(rows) => Ok(
-            matches!(rows.as_slice(), [change] if change.member == alive(b'b', 0)),
+            matches!(rows.as_slice(), [change] if change.altered == Altered::Recorded(alive(b'b', 0))),
         ),
         Behind::Missed(_) => Ok(false),
     }

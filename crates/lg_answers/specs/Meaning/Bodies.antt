@@ -60,6 +60,15 @@ key_field c key = number_field (key_name key) (number_of_key key c)
 abbrev pub own_field : NodeNumber → List ℕ
 own_field own = number_field own.key.now own.value
 
+-- the group of the member: "GROUP", or null if it has none
+abbrev pub group_value : Option (List ℕ) → List ℕ
+group_value None = codes "null"
+group_value (Some group) = codes "\"" ++ group ++ codes "\""
+
+-- ,"group":GROUP
+unfoldable pub group_field : Option (List ℕ) → List ℕ
+group_field group = codes ",\"group\":" ++ group_value group
+
 -- where the node answers over HTTP: "ADDRESS:PORT", or null if it doesn't
 abbrev pub status_value : Option Addr → List ℕ
 status_value None = codes "null"
@@ -80,5 +89,5 @@ seed_json seed = codes "{\"name\":\"" ++ (seed.name ++ codes "\",") ++ address_f
 unfoldable pub config_body : ShownConfig → List ℕ
 config_body setup =
     config_front setup.config ++ flat_map (key_field setup.config) keys ++ flat_map own_field setup.numbers.items
-    ++ status_field setup.status ++ open_field setup.status_open
+    ++ group_field setup.config.group ++ status_field setup.status ++ open_field setup.status_open
     ++ codes ",\"seeds\":[" ++ comma_separated seed_json setup.config.seeds.items ++ codes "]}"

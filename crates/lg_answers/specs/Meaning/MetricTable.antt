@@ -8,7 +8,7 @@ use Rattle.lg_answers.specs.declared.metric.Metric.TheVariants.{HealthScore, Inc
 use Rattle.lg_answers.specs.declared.metric.Metric.TheVariants.{Uptime, StoodStill, Received, Sent, Unsent, ProbesBegun}
 use Rattle.lg_answers.specs.declared.metric.Metric.TheVariants.{ProbesFailed, ProbesHelped, SuspicionsRaised}
 use Rattle.lg_answers.specs.declared.metric.Metric.TheVariants.{SuspicionsRefuted, HistoryEntries, HistoryRotations}
-use Rattle.lg_answers.specs.declared.metric.Metric.TheVariants.{CallsRefused}
+use Rattle.lg_answers.specs.declared.metric.Metric.TheVariants.{CallsRefused, MembersForgotten}
 use Rattle.lg_answers.specs.declared.snapshot.Snapshot.{Snapshot}
 
 -- the metrics in the order in which they are shown
@@ -16,7 +16,7 @@ abbrev pub metrics : List Metric
 metrics =
     HealthScore ∷ Incarnation ∷ Ousted ∷ Events ∷ LastEvent ∷ Uptime ∷ StoodStill ∷ Received ∷ Sent ∷ Unsent
     ∷ ProbesBegun ∷ ProbesFailed ∷ ProbesHelped ∷ SuspicionsRaised ∷ SuspicionsRefuted
-    ∷ HistoryEntries ∷ HistoryRotations ∷ CallsRefused ∷ []
+    ∷ MembersForgotten ∷ HistoryEntries ∷ HistoryRotations ∷ CallsRefused ∷ []
 
 abbrev pub metric_name : Metric → List ℕ
 metric_name HealthScore = codes "lg_health_score"
@@ -34,6 +34,7 @@ metric_name ProbesFailed = codes "lg_probes_failed_total"
 metric_name ProbesHelped = codes "lg_probes_helped_total"
 metric_name SuspicionsRaised = codes "lg_suspicions_raised_total"
 metric_name SuspicionsRefuted = codes "lg_suspicions_refuted_total"
+metric_name MembersForgotten = codes "lg_members_forgotten_total"
 metric_name HistoryEntries = codes "lg_history_entries_total"
 metric_name HistoryRotations = codes "lg_history_rotations_total"
 metric_name CallsRefused = codes "lg_calls_refused_total"
@@ -54,6 +55,7 @@ metric_help ProbesFailed = codes "Probes that no Ack ended in time."
 metric_help ProbesHelped = codes "Probes made for other members."
 metric_help SuspicionsRaised = codes "Suspicions raised, of any member."
 metric_help SuspicionsRefuted = codes "Suspicions of this member that it refuted."
+metric_help MembersForgotten = codes "Members forgotten, those that became known again too."
 metric_help HistoryEntries = codes "Entries that the history took."
 metric_help HistoryRotations = codes "Rotations of the history."
 metric_help CallsRefused = codes "Calls that were refused."
@@ -87,6 +89,7 @@ metric_amount ProbesFailed s = Number s.counts.probes_failed
 metric_amount ProbesHelped s = Number s.counts.probes_helped
 metric_amount SuspicionsRaised s = Number s.counts.suspicions_raised
 metric_amount SuspicionsRefuted s = Number s.counts.suspicions_refuted
+metric_amount MembersForgotten s = Number s.counts.members_forgotten
 metric_amount HistoryEntries s = Number s.counts.history_entries
 metric_amount HistoryRotations s = Number s.counts.history_rotations
 metric_amount CallsRefused s = Number s.counts.calls_refused

@@ -1,12 +1,12 @@
 -- Worked changes: b finds c, and then that a is suspected by c and that c has failed.
-use Rattle.std.specs.Prelude.{⊤, ◌≡◌, ℕ, List, [], ◌∷◌, Some, codes, refl}
+use Rattle.std.specs.Prelude.{⊤, ◌≡◌, ℕ, List, [], ◌∷◌, ◌++◌, Some, codes, refl}
 use Rattle.lg_rules.specs.declared.addr.Addr.{Addr}
 use Rattle.lg_rules.specs.declared.addr.Ip.TheVariants.{V4}
 use Rattle.lg_rules.specs.declared.claim.Claim.{Claim}
 use Rattle.lg_rules.specs.declared.claim.Status.{Status}
 use Rattle.lg_rules.specs.declared.claim.Status.TheVariants as status
 use Rattle.lg_changes.specs.declared.change.Change.{Change}
-use Rattle.lg_changes.specs.Meaning.Changes.{change_at, changes_after, last_version}
+use Rattle.lg_changes.specs.Meaning.Changes.{recorded_at, forgotten_at, changes_after, last_version}
 
 -- what the rows have to unfold
 unfoldable by_changing : ⊤
@@ -27,12 +27,18 @@ c status = claimed (codes "c") 7103 status 2
 
 abbrev all_three : List Change
 all_three =
-    change_at 30 4000 (c status.Alive) ∷ change_at 41 5120 suspected ∷ change_at 41 5120 (c status.Failed) ∷ []
+    recorded_at 30 4000 (c status.Alive) ∷ recorded_at 41 5120 suspected ∷ recorded_at 41 5120 (c status.Failed) ∷ []
 
 two_behind_30 : changes_after 30 all_three
-    ≡ Some (change_at 41 5120 suspected ∷ change_at 41 5120 (c status.Failed) ∷ [])
+    ≡ Some (recorded_at 41 5120 suspected ∷ recorded_at 41 5120 (c status.Failed) ∷ [])
 unfolding by_changing
 two_behind_30 = refl
+
+-- a long time later c is forgotten
+later : changes_after 41 (all_three ++ forgotten_at 90 90000000 (codes "c") ∷ [])
+    ≡ Some (forgotten_at 90 90000000 (codes "c") ∷ [])
+unfolding by_changing
+later = refl
 
 none_behind_41 : changes_after 41 all_three ≡ Some []
 unfolding by_changing

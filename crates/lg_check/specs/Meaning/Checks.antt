@@ -7,15 +7,16 @@ use Rattle.std.specs.Str.{bytes_eq}
 use Rattle.lg_rules.specs.declared.addr.Addr.{Addr}
 use Rattle.lg_timing.specs.declared.config.Config.{Config}
 use Rattle.lg_timing.specs.declared.keys.Key.{Key}
-use Rattle.lg_timing.specs.Meaning.Keys.{key_name, keys, number_of_key, row_of}
+use Rattle.lg_timing.specs.Meaning.Keys.{key_name, number_of_key, row_of}
 use Rattle.lg_timing.specs.Meaning.Timeouts.{range_of, suspicion_of}
 use Rattle.lg_text.specs.Meaning.Lines.{newline}
 use Rattle.lg_text.specs.Meaning.Addresses.{ip_text}
 use Rattle.lg_config.specs.declared.node.NodeConfig.{NodeConfig}
 use Rattle.lg_config.specs.declared.node_keys.NodeKey.{NodeKey}
 use Rattle.lg_config.specs.Meaning.Bounds.{default_address, default_dice, default_port}
+use Rattle.lg_config.specs.Meaning.Keys.{file_keys}
 use Rattle.lg_config.specs.Meaning.NodeKeys.{node_key_name, node_keys, node_row_of, own_number}
-use Rattle.lg_check.specs.Meaning.Spelling.{path_spelled, seeds_spelled, status_spelled, truth_spelled}
+use Rattle.lg_check.specs.Meaning.Spelling.{group_spelled, path_spelled, seeds_spelled, status_spelled, truth_spelled}
 
 -- what stands behind a value that is the default of its key
 abbrev pub default_mark : Bool → List ℕ
@@ -63,6 +64,10 @@ server_lines node = listening_line node.status ++ status_open_line node.status_o
 abbrev pub key_file_line : Option (List ℕ) → List ℕ
 key_file_line path = key_line (codes "key_file") (path_spelled path) (is_none path)
 
+-- the line of the group that the member belongs to
+abbrev pub group_name_line : Option (List ℕ) → List ℕ
+group_name_line group = key_line (codes "group") (group_spelled group) (is_none group)
+
 -- MEMBERS members: a round takes ROUND ms, a suspicion lasts LEAST to GREATEST ms
 abbrev pub times_line : ℕ → ℕ → ℕ → ℕ → List ℕ
 times_line members round least greatest =
@@ -79,9 +84,10 @@ group_line c members = times_line members c.interval_ms (range_of members c).min
 abbrev pub group_sizes : List ℕ
 group_sizes = 4 ∷ 16 ∷ 64 ∷ 256 ∷ []
 
--- all lines: the keys in the order of the documents, then the groups
+-- all lines: the keys that a file may have, in the order of the documents, then the sizes of a group
 unfoldable pub check_text : NodeConfig → List ℕ
 check_text node =
     address_lines node.config ++ start_lines node
-    ++ flat_map (member_line node.config) keys ++ flat_map (own_line node) node_keys
-    ++ server_lines node ++ key_file_line node.key_file ++ flat_map (group_line node.config) group_sizes
+    ++ flat_map (member_line node.config) file_keys ++ flat_map (own_line node) node_keys
+    ++ server_lines node ++ key_file_line node.key_file ++ group_name_line node.config.group
+    ++ flat_map (group_line node.config) group_sizes

@@ -4,14 +4,14 @@ use Rattle.std.specs.Fmt.{digits}
 use Rattle.lg_rules.specs.declared.addr.Addr.{Addr}
 use Rattle.lg_rules.specs.declared.addr.Ip.TheVariants.{V4}
 use Rattle.lg_timing.specs.declared.config.Config.{Config}
-use Rattle.lg_timing.specs.declared.keys.Key.TheVariants.{IntervalMs, TimeoutMs, GossipMs, GossipTo}
+use Rattle.lg_timing.specs.declared.keys.Key.TheVariants.{IntervalMs, TimeoutMs, ForgetMs, GossipMs, GossipTo}
 use Rattle.lg_timing.specs.Meaning.Config.{defaults}
 use Rattle.lg_timing.specs.Meaning.Tables.{log10_of, ratio_of}
 use Rattle.lg_timing.specs.Meaning.Timeouts.{range_of, timeout_of}
 use Rattle.lg_config.specs.declared.node.NodeConfig.{NodeConfig}
 use Rattle.lg_config.specs.declared.node_keys.NodeKey.TheVariants.{PullMs, StallMs}
 use Rattle.lg_check.specs.Meaning.Checks.{key_file_line, address_lines, group_line, member_line, own_line, server_lines}
-use Rattle.lg_check.specs.Meaning.Checks.{start_lines}
+use Rattle.lg_check.specs.Meaning.Checks.{group_name_line, start_lines}
 use Rattle.lg_check.specs.Meaning.Spelling.{seeds_spelled}
 
 -- what the rows have to unfold
@@ -95,6 +95,15 @@ no-gossip : member_line (record b-by-default { gossip_ms = 0 }) GossipMs ≡ cod
 unfolding on_checks
 no-gossip = refl
 
+forgotten-after-a-day :
+    member_line (record b-by-default { forget_ms = 86400000 }) ForgetMs ≡ codes "forget_ms = 86400000\n"
+unfolding on_checks
+forgotten-after-a-day = refl
+
+never-forgotten : member_line b-by-default ForgetMs ≡ codes "forget_ms = 0 (default)\n"
+unfolding on_checks
+never-forgotten = refl
+
 default-gossip :
     member_line b-by-default GossipMs ++ member_line b-by-default GossipTo
     ≡ codes "gossip_ms = 200 (default)\ngossip_to = 3 (default)\n"
@@ -136,3 +145,13 @@ no-key_file = refl
 
 a-key_file : key_file_line (Some (codes "group.key")) ≡ codes "key_file = group.key\n"
 a-key_file = refl
+
+no-group : group_name_line b-by-default.group ≡ codes "group = none (default)\n"
+no-group = refl
+
+a-group : group_name_line (Some (codes "grn")) ≡ codes "group = grn\n"
+a-group = refl
+
+-- a group of this name is told from no group
+group-none : group_name_line (Some (codes "none")) ≡ codes "group = none\n"
+group-none = refl

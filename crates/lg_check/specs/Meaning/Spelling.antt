@@ -27,6 +27,11 @@ abbrev pub path_spelled : Option (List ℕ) → List ℕ
 path_spelled None = codes "none"
 path_spelled (Some path) = path
 
+-- the name of a group, or the word for no group
+abbrev pub group_spelled : Option (List ℕ) → List ℕ
+group_spelled None = codes "none"
+group_spelled (Some name) = name
+
 -- a truth value, as TOML spells it
 abbrev pub truth_spelled : Bool → List ℕ
 truth_spelled true = codes "true"

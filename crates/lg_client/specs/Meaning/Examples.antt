@@ -118,6 +118,26 @@ news-body =
     codes "{\"version\":41,\"missed\":true,\"changes\":[{\"version\":41,\"moment_ms\":5120,\"name\":\"a\","
     ++ codes "\"status\":\"alive\",\"incarnation\":1,\"address\":\"127.0.0.1\",\"port\":7101,\"accuser\":null}]}"
 
+-- a member that failed and was then forgotten
+abbrev forgetting-body : List ℕ
+forgetting-body =
+    codes "{\"version\":90,\"missed\":false,\"changes\":[{\"version\":41,\"moment_ms\":5120,\"name\":\"c\","
+    ++ codes "\"status\":\"failed\",\"incarnation\":0,\"address\":\"127.0.0.1\",\"port\":7103,\"accuser\":null},"
+    ++ codes "{\"version\":90,\"moment_ms\":90000,\"name\":\"c\",\"status\":\"forgotten\",\"incarnation\":null,"
+    ++ codes "\"address\":null,\"port\":null,\"accuser\":null}]}"
+
+-- no more than is read of one that was forgotten
+abbrev least-body : List ℕ
+least-body =
+    codes "{\"version\":90,\"missed\":false,\"changes\":[{\"moment_ms\":90000,\"name\":\"c\","
+    ++ codes "\"status\":\"forgotten\"}]}"
+
+-- the members have no such status
+abbrev forgotten-member-body : List ℕ
+forgotten-member-body =
+    codes "{\"version\":90,\"moment_ms\":90000,\"name\":\"b\",\"members\":[{\"name\":\"c\",\"status\":\"forgotten\","
+    ++ codes "\"incarnation\":0,\"address\":\"127.0.0.1\",\"port\":7103,\"accuser\":null}]}"
+
 -- no changes, and a version that begins anew
 abbrev quiet-body : List ℕ
 quiet-body = codes "{\"version\":3,\"missed\":false,\"changes\":[]}"
@@ -159,6 +179,22 @@ tells-missed : changes_told false false news-body
     ≡ Some record { text = lines (codes "missed" ∷ codes "5120 record a alive 1 127.0.0.1:7101" ∷ []); version = 41 }
 unfolding by_reading
 tells-missed = refl
+
+tells-forgotten : changes_told false false forgetting-body ≡ Some record {
+  text = lines (codes "5120 record c failed 0 127.0.0.1:7103" ∷ codes "90000 forgotten c" ∷ []);
+  version = 90;
+}
+unfolding by_reading
+tells-forgotten = refl
+
+tells-forgotten-by-name : changes_told false false least-body
+    ≡ Some record { text = codes "90000 forgotten c" ++ newline; version = 90 }
+unfolding by_reading
+tells-forgotten-by-name = refl
+
+tells-no-forgotten-member : question_told Members false forgotten-member-body ≡ None
+unfolding by_reading
+tells-no-forgotten-member = refl
 
 tells-no-news : changes_told true false quiet-body ≡ Some record { text = []; version = 3 }
 unfolding by_reading

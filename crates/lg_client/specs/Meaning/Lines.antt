@@ -3,6 +3,8 @@ use Rattle.std.specs.Prelude.{ℕ, Bool, ◌&&◌, not, List, [], ◌∷◌, ◌
 use Rattle.std.specs.List.{flat_map}
 use Rattle.lg_text.specs.Meaning.Lines.{newline}
 use Rattle.lg_lines.specs.Meaning.Records.{blank, table_text}
+use Rattle.lg_client.specs.declared.changes.Altered.{Altered}
+use Rattle.lg_client.specs.declared.changes.Altered.TheVariants.{Forgotten, Recorded}
 use Rattle.lg_client.specs.declared.changes.Change.{Change}
 use Rattle.lg_client.specs.declared.health.Health.{Health}
 use Rattle.lg_client.specs.Meaning.Changes.{NewsSaid}
@@ -37,9 +39,14 @@ time_lines h =
 unfoldable pub health_lines : Health → List ℕ
 health_lines h = standing_lines h ++ count_lines h ++ time_lines h
 
--- a change: its moment before the line of its record
+-- what a change says of a member: the line of its record, or `forgotten NAME`
+abbrev pub altered_line : Altered → List ℕ
+altered_line (Recorded member) = table_text (member ∷ [])
+altered_line (Forgotten name) = pair_line (codes "forgotten") name
+
+-- a change: its moment before this line
 abbrev pub change_line : Change → List ℕ
-change_line change = decimal change.moment_ms ++ blank ++ table_text (change.member ∷ [])
+change_line change = decimal change.moment_ms ++ blank ++ altered_line change.altered
 
 -- what stands before changes that stand for others, but not in the first answer
 abbrev pub missed_text : Bool → List ℕ

@@ -92,7 +92,7 @@ const ENDS: [(Of, u8, &str); 25] = [
 ];
 
 /// Each fault of a file with its number and its line.
-const FAULTS: [(FileFault, u8, &str); 23] = [
+const FAULTS: [(FileFault, u8, &str); 26] = [
     (
         FileFault::Config(ConfigFault::Interval),
         1,
@@ -135,6 +135,11 @@ const FAULTS: [(FileFault, u8, &str); 23] = [
     (FileFault::StatusNotLoopback, 20, "lg: config 20\n"),
     (FileFault::KeyFile, 21, "lg: config 21\n"),
     (
+        FileFault::Config(ConfigFault::Forget),
+        22,
+        "lg: config 22\n",
+    ),
+    (
         FileFault::Config(ConfigFault::GossipMs),
         23,
         "lg: config 23\n",
@@ -144,6 +149,8 @@ const FAULTS: [(FileFault, u8, &str); 23] = [
         24,
         "lg: config 24\n",
     ),
+    (FileFault::Config(ConfigFault::First), 25, "lg: config 25\n"),
+    (FileFault::Config(ConfigFault::Group), 26, "lg: config 26\n"),
 ];
 
 /// Each end has its status and its line, and each fault of a file its number, the status 3 and its line.

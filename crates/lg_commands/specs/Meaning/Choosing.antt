@@ -28,8 +28,8 @@ abbrev pub are_names : List (List ℕ) → Bool
 are_names parts = nat_le (length parts) most_others && (list_all is_name parts && are_different parts)
 
 -- the names that a text lists, or None if they are bad
-unfoldable pub names_in : List ℕ → Option (List (List ℕ))
-names_in text = if are_names (comma_parts text) then Some (comma_parts text) else None
+unfoldable pub names_of_text : List ℕ → Option (List (List ℕ))
+names_of_text text = if are_names (comma_parts text) then Some (comma_parts text) else None
 
 -- whether this is a word, as a script has them: 1 to 16 decimal digits, a number of at most 4,294,967,295
 abbrev pub is_word : List ℕ → Bool
@@ -56,4 +56,4 @@ choices_of (Some names) (Some words) = Ok (name_lines (picks names words))
 
 -- what is written for a text of names and a text of words, or which of the two is bad
 unfoldable pub order_text : List ℕ → List ℕ → Result (List ℕ) BadList
-order_text names words = choices_of (names_in names) (words_of_text words)
+order_text names words = choices_of (names_of_text names) (words_of_text words)

@@ -19,7 +19,7 @@ use Rattle.lg_text.specs.declared.end.RunEnd.TheVariants.{Done}
 use Rattle.lg_commands.specs.Meaning.Answering.{answer_end, answer_text, events_of_lines, heard_event, opening}
 use Rattle.lg_commands.specs.Meaning.Answering.{sent_text}
 use Rattle.lg_script.specs.Meaning.Values.{local}
-use Rattle.lg_commands.specs.Meaning.Choosing.{are_names, comma_parts, names_in, order_text, words_of_text}
+use Rattle.lg_commands.specs.Meaning.Choosing.{are_names, comma_parts, names_of_text, order_text, words_of_text}
 use Rattle.lg_commands.specs.Meaning.Spelled.{packet_in}
 use Rattle.lg_commands.specs.Meaning.Timeouts.{timeouts_text}
 use Rattle.lg_commands.specs.declared.order.BadList.TheVariants.{Names, Words}
@@ -126,33 +126,33 @@ empty-parts = refl
 -- the two choices of a are three apart
 two-to-choose : order_text (codes "a,b") (codes "0,0,1,0")
     ≡ Ok (lines (codes "a" ∷ codes "b" ∷ codes "b" ∷ codes "a" ∷ []))
-unfolding order_text names_in words_of_text
+unfolding order_text names_of_text words_of_text
 two-to-choose = refl
 
 three-to-choose :
     order_text (codes "b,c,d") (codes "4,0,5") ≡ Ok (lines (codes "c" ∷ codes "b" ∷ codes "d" ∷ []))
-unfolding order_text names_in words_of_text
+unfolding order_text names_of_text words_of_text
 three-to-choose = refl
 
 -- the names may stand in any order
 in-any-order : order_text (codes "d,b,c") (codes "4,0,5") ≡ Ok (lines (codes "c" ∷ codes "b" ∷ codes "d" ∷ []))
-unfolding order_text names_in words_of_text
+unfolding order_text names_of_text words_of_text
 in-any-order = refl
 
 one-to-choose : order_text (codes "a") (codes "9,9") ≡ Ok (lines (codes "a" ∷ codes "a" ∷ []))
-unfolding order_text names_in words_of_text
+unfolding order_text names_of_text words_of_text
 one-to-choose = refl
 
 no-words : order_text (codes "a,b") [] ≡ Ok []
-unfolding order_text names_in words_of_text
+unfolding order_text names_of_text words_of_text
 no-words = refl
 
 name-twice : order_text (codes "a,a") (codes "0") ≡ Err Names
-unfolding order_text names_in words_of_text
+unfolding order_text names_of_text words_of_text
 name-twice = refl
 
 no-names : order_text [] (codes "0") ≡ Err Names
-unfolding order_text names_in words_of_text
+unfolding order_text names_of_text words_of_text
 no-names = refl
 
 -- 256 names, each of two letters out of sixteen: one name more than a list may have.
@@ -169,27 +169,27 @@ too-many-names : are_names two-letter-names ≡ false
 too-many-names = refl
 
 greatest-word : order_text (codes "a") (codes "4294967295") ≡ Ok (lines (codes "a" ∷ []))
-unfolding order_text names_in words_of_text
+unfolding order_text names_of_text words_of_text
 greatest-word = refl
 
 past-greatest-word : order_text (codes "a") (codes "4294967296") ≡ Err Words
-unfolding order_text names_in words_of_text
+unfolding order_text names_of_text words_of_text
 past-greatest-word = refl
 
 -- leading zeros count as digits
 seventeen-digits : order_text (codes "a") (codes "0000000000000001,00000000000000001") ≡ Err Words
-unfolding order_text names_in words_of_text
+unfolding order_text names_of_text words_of_text
 seventeen-digits = refl
 
 signed-word : order_text (codes "a") (codes "+1") ≡ Err Words
-unfolding order_text names_in words_of_text
+unfolding order_text names_of_text words_of_text
 signed-word = refl
 
 two-empty-words : order_text (codes "a") (codes ",") ≡ Err Words
-unfolding order_text names_in words_of_text
+unfolding order_text names_of_text words_of_text
 two-empty-words = refl
 
 -- the names are judged first
 both-bad : order_text (codes "a,a") (codes "x") ≡ Err Names
-unfolding order_text names_in words_of_text
+unfolding order_text names_of_text words_of_text
 both-bad = refl

@@ -8,14 +8,13 @@ use Rattle.lg_rules.specs.declared.addr.Addr.{Addr}
 use Rattle.lg_rules.specs.declared.addr.Ip.TheVariants.{V4}
 use Rattle.lg_timing.specs.declared.config.Config.{Config}
 use Rattle.lg_timing.specs.declared.config.ConfigFault.TheVariants.{Interval, Lambda, History, Seeds, Wire}
-use Rattle.lg_timing.specs.declared.config.ConfigFault.TheVariants.{GossipMs, GossipTo}
 use Rattle.lg_timing.specs.Meaning.Config.{check_of, defaults}
 use Rattle.lg_config.specs.declared.fault.FileFault.{FileFault}
 use Rattle.lg_config.specs.declared.fault.FileFault.TheVariants as fault
 use Rattle.lg_config.specs.declared.node.NodeConfig.{NodeConfig}
 use Rattle.lg_config.specs.Meaning.Answer.{answer_of}
 use Rattle.lg_config.specs.Meaning.KeyFiles.{path_of}
-use Rattle.lg_config.specs.Meaning.Keys.{kind_of_key}
+use Rattle.lg_config.specs.Meaning.Keys.{file_key_named, kind_of_key}
 use Rattle.lg_config.specs.Meaning.Settings.{addr_in, dice_in, name_in, settings_of, with_numbers}
 use Rattle.lg_config.specs.Meaning.Texts.{before, behind, octets_of, address_of, seed_of_text}
 
@@ -24,12 +23,16 @@ unfoldable on_texts : ⊤
 unfolding is_utf8 chars before behind octets_of address_of seed_of_text
 on_texts = tt
 
-unfoldable on_files : ⊤
-unfolding toml_on_literals on_texts answer_of kind_of_key settings_of name_in addr_in dice_in with_numbers check_of
+unfoldable on_keys : ⊤
+unfolding kind_of_key file_key_named
+on_keys = tt
+
+unfoldable pub on_files : ⊤
+unfolding toml_on_literals on_texts answer_of on_keys settings_of name_in addr_in dice_in with_numbers check_of
 on_files = tt
 
 -- a file of the member b that also has these lines
-abbrev b-with : List ℕ → List ℕ
+abbrev pub b-with : List ℕ → List ℕ
 b-with lines = codes "name = \"b\"\n" ++ lines
 
 -- 127.0.0.1 with a port
@@ -37,11 +40,11 @@ abbrev local : ℕ → Addr
 local port = record { ip = V4 (127 ∷ 0 ∷ 0 ∷ 1 ∷ []); port = port }
 
 -- the member b with the default numbers
-abbrev b-by-default : Config
+abbrev pub b-by-default : Config
 b-by-default = defaults (98 ∷ []) (local 7946)
 
 -- a file that means this configuration, with the default dice
-abbrev means : Config → Result NodeConfig FileFault
+abbrev pub means : Config → Result NodeConfig FileFault
 means config =
     Ok record {
       config = config;
@@ -67,10 +70,10 @@ abbrev timed : List ℕ
 timed = codes "interval_ms = 200\ntimeout_ms = 50\nalpha = 2\nbeta = 3\nnack_thousandths = 6\n"
 
 abbrev counted : List ℕ
-counted = codes "indirect = 0\nmax_score = 1\nconfirmations = 4\nlambda = 5\nhistory_limit = 7\nwire = 2\n"
+counted = codes "indirect = 0\nmax_score = 1\nconfirmations = 4\nlambda = 5\nhistory_limit = 7\nwire = 3\n"
 
-abbrev gossiped : List ℕ
-gossiped = codes "gossip_ms = 0\ngossip_to = 8\n"
+abbrev told : List ℕ
+told = codes "forget_ms = 86400000\ngossip_ms = 0\ngossip_to = 8\ngroup = \"grn\"\n"
 
 abbrev owned : List ℕ
 owned = codes "pull_ms = 0\nstall_ms = 60000\n"
@@ -79,7 +82,7 @@ abbrev served : List ℕ
 served = codes "status = \"10.0.0.7:8946\"\nstatus_open = true\n"
 
 all-keys :
-    answer_of (b-with (addressed ++ timed ++ counted ++ gossiped ++ owned ++ served))
+    answer_of (b-with (addressed ++ timed ++ counted ++ told ++ owned ++ served))
     ≡ Ok record {
       config =
           record (defaults (98 ∷ []) (record { ip = V4 (10 ∷ 0 ∷ 0 ∷ 7 ∷ []); port = 1 })) {
@@ -93,9 +96,11 @@ all-keys :
             lambda = 5;
             nack_thousandths = 6;
             history_limit = 7;
-            wire = 2;
+            wire = 3;
+            forget_ms = 86400000;
             gossip_ms = 0;
             gossip_to = 8;
+            group = Some (codes "grn");
             seeds = record { items = record { name = 99 ∷ []; addr = local 7001 } ∷ [] };
           };
       dice = 9223372036854775807;
@@ -226,15 +231,6 @@ fourth-version : answer_of (b-with (codes "wire = 4")) ≡ Err (fault.Config Wir
 unfolding on_files
 fourth-version = refl
 
-soon-gossip : answer_of (b-with (codes "gossip_ms = 9")) ≡ Err (fault.Config GossipMs)
-unfolding on_files
-soon-gossip = refl
-
--- the version is judged before gossip
-wire-before-gossip : answer_of (b-with (codes "gossip_to = 9\nwire = 4")) ≡ Err (fault.Config Wire)
-unfolding on_files
-wire-before-gossip = refl
-
 -- ---- files with a number of the node's own out of its range
 
 rare-pulls : answer_of (b-with (codes "pull_ms = 3600001")) ≡ Err fault.Pull
@@ -249,14 +245,10 @@ long-stall : answer_of (b-with (codes "stall_ms = 60001")) ≡ Err fault.Stall
 unfolding on_files
 long-stall = refl
 
--- they are judged in this order, before gossip and behind the other numbers
+-- they are judged in this order, and behind the version
 pulls-before-stall : answer_of (b-with (codes "stall_ms = -1\npull_ms = -1")) ≡ Err fault.Pull
 unfolding on_files
 pulls-before-stall = refl
-
-pulls-before-gossip : answer_of (b-with (codes "pull_ms = -1\ngossip_to = 9")) ≡ Err fault.Pull
-unfolding on_files
-pulls-before-gossip = refl
 
 wire-before-pulls : answer_of (b-with (codes "pull_ms = -1\nwire = 4")) ≡ Err (fault.Config Wire)
 unfolding on_files
@@ -379,11 +371,7 @@ path-as-number : answer_of (b-with (codes "key_file = 1")) ≡ Err fault.Key
 unfolding on_files
 path-as-number = refl
 
--- it is judged behind the status server, and gossip behind all
+-- it is judged behind the status server
 status-before-path : answer_of (b-with (codes "key_file = \"\"\nstatus = 1")) ≡ Err fault.Status
 unfolding on_files
 status-before-path = refl
-
-path-before-gossip : answer_of (b-with (codes "key_file = \"\"\ngossip_ms = 9")) ≡ Err fault.KeyFile
-unfolding on_files
-path-before-gossip = refl

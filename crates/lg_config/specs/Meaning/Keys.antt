@@ -1,18 +1,20 @@
 -- The keys of a configuration file, and the TOML type of each key's value.
-use Rattle.std.specs.Prelude.{ℕ, Bool, true, false, ◌&&◌, List, [], ◌∷◌, codes, Option, Some, None, is_some}
+use Rattle.std.specs.Prelude.{ℕ, Bool, true, false, ◌&&◌, List, [], ◌∷◌, codes, Option, Some, None, is_some, find}
 use Rattle.std.specs.Prelude.{if◌then◌else◌}
-use Rattle.std.specs.List.{list_any}
+use Rattle.std.specs.List.{filter, list_any}
 use Rattle.std.specs.Str.{bytes_eq}
 use Rattle.toml.specs.Data.{Data, Items, no_items, item, Members, no_members, member, get_member}
 use Rattle.toml.specs.Data.{as_str, as_integer, as_array}
-use Rattle.lg_timing.specs.Meaning.Keys.{key_named}
+use Rattle.lg_timing.specs.Meaning.Keys.{has_key_name, keys}
+use Rattle.lg_timing.specs.declared.keys.Key.{Key}
+use Rattle.lg_timing.specs.declared.keys.Key.TheVariants.{First}
 use Rattle.lg_config.specs.Meaning.NodeKeys.{node_key_named}
 use Rattle.lg_config.specs.declared.keys.Kind.{Kind}
 use Rattle.lg_config.specs.declared.keys.Kind.TheVariants.{Text, Number, Texts, Any}
 
 -- the keys whose value is a text
 abbrev pub text_keys : List (List ℕ)
-text_keys = codes "name" ∷ codes "address" ∷ codes "key_file" ∷ []
+text_keys = codes "name" ∷ codes "address" ∷ codes "key_file" ∷ codes "group" ∷ []
 
 -- the keys whose value is a whole number, besides those of the member's numbers and the node's own
 abbrev pub number_keys : List (List ℕ)
@@ -30,6 +32,19 @@ status_key = codes "status"
 abbrev pub open_key : List ℕ
 open_key = codes "status_open"
 
+-- whether a file may give a number of the member's: it may give all but the first number of a probe
+abbrev pub is_file_key : Key → Bool
+is_file_key First = false
+is_file_key key = true
+
+-- the keys of the numbers of the member's that a file may give, in the order in which they are judged
+abbrev pub file_keys : List Key
+file_keys = filter is_file_key keys
+
+-- the one of them with a name, if there is one
+unfoldable pub file_key_named : List ℕ → Option Key
+file_key_named word = find (has_key_name word) file_keys
+
 -- whether a key is one of these
 abbrev pub is_listed : List (List ℕ) → List ℕ → Bool
 is_listed keys key = list_any (λ known. bytes_eq key known) keys
@@ -41,7 +56,7 @@ kind_of_key key =
     else if is_listed number_keys key then Some Number
     else if bytes_eq key texts_key then Some Texts
     else if is_listed (status_key ∷ open_key ∷ []) key then Some Any
-    else if is_some (key_named key) then Some Number
+    else if is_some (file_key_named key) then Some Number
     else if is_some (node_key_named key) then Some Number
     else None
 

@@ -8,13 +8,13 @@ use Rattle.toml.proofs.OnLiterals.{toml_on_literals}
 use Rattle.strsim.specs.Edits.{rows, next_row, cost_at}
 use Rattle.toml.specs.Data.{Members}
 use Rattle.lg_timing.specs.Meaning.Config.{check_of}
-use Rattle.lg_timing.specs.Meaning.Keys.{keys}
 use Rattle.lg_config.specs.declared.fault.FileFault.{FileFault}
 use Rattle.lg_config.specs.declared.fault.FileFault.TheVariants as fault
 use Rattle.lg_config.specs.declared.node.NodeConfig.{NodeConfig}
 use Rattle.lg_config.specs.Meaning.Answer.{answer_of, document_of}
 use Rattle.lg_config.specs.Meaning.FormReasons.{seeds_reason, value_reason}
-use Rattle.lg_config.specs.Meaning.Keys.{kind_of_key, number_keys, text_keys}
+use Rattle.lg_config.specs.Meaning.GroupReasons.{group_reason}
+use Rattle.lg_config.specs.Meaning.Keys.{file_key_named, file_keys, kind_of_key, number_keys, text_keys}
 use Rattle.lg_config.specs.Meaning.NodeKeys.{node_keys}
 use Rattle.lg_config.specs.Meaning.NearestKeys.{edits, fewest_edits, first_at, known_keys}
 use Rattle.lg_config.specs.Meaning.NearestKeys.{nearest_key, nearest_of}
@@ -28,12 +28,20 @@ unfoldable on_texts : ⊤
 unfolding toml_on_literals is_utf8 chars digits before behind octets_of address_of seed_of_text
 on_texts = tt
 
+unfoldable on_keys : ⊤
+unfolding kind_of_key file_key_named
+on_keys = tt
+
 unfoldable on_answers : ⊤
-unfolding on_texts answer_of kind_of_key settings_of name_in addr_in dice_in with_numbers check_of
+unfolding on_texts answer_of on_keys settings_of name_in addr_in dice_in with_numbers check_of
 on_answers = tt
 
+unfoldable on_nearest : ⊤
+unfolding nearest_key nearest_of fewest_edits first_at edits rows next_row cost_at
+on_nearest = tt
+
 unfoldable on_reasons : ⊤
-unfolding on_answers value_reason seeds_reason nearest_key nearest_of fewest_edits first_at edits rows next_row cost_at
+unfolding on_answers on_nearest value_reason seeds_reason group_reason
 on_reasons = tt
 
 -- the reason of the fault that a file's document has, if it has one
@@ -63,7 +71,13 @@ fourth-version : said (codes "wire = 4") ≡ Some (codes "wire is 4, and has to 
 unfolding on_reasons
 fourth-version = refl
 
--- 0 turns gossip off, so it is allowed too
+-- with 0 no member is forgotten, so it is allowed too
+soon-forgotten :
+    said (codes "forget_ms = 999") ≡ Some (codes "forget_ms is 999, and has to be 0 or from 1000 to 2592000000\n")
+unfolding on_reasons
+soon-forgotten = refl
+
+-- 0 turns gossip off
 soon-gossip :
     said (codes "gossip_ms = 9") ≡ Some (codes "gossip_ms is 9, and has to be 0 or from 10 to 60000\n")
 unfolding on_reasons
@@ -175,6 +189,42 @@ no-loopback :
 unfolding on_reasons
 no-loopback = refl
 
+bad-group :
+    said (codes "group = \"g!\"")
+    ≡ Some (codes "group is \"g!\", and has to be 1 to 32 of A-Z a-z 0-9 . _ -\n")
+unfolding on_reasons
+bad-group = refl
+
+-- the group is no name, whatever the version of packets is
+bad-group-first :
+    said (codes "wire = 2\ngroup = \"\"") ≡ Some (codes "group is \"\", and has to be 1 to 32 of A-Z a-z 0-9 . _ -\n")
+unfolding on_reasons
+bad-group-first = refl
+
+group-by-default-version :
+    said (codes "group = \"g\"") ≡ Some (codes "wire is 1 by default, and has to be 3 for a member of a group\n")
+unfolding on_reasons
+group-by-default-version = refl
+
+group-in-version-2 :
+    said (codes "group = \"g\"\nwire = 2") ≡ Some (codes "wire is 2, and has to be 3 for a member of a group\n")
+unfolding on_reasons
+group-in-version-2 = refl
+
+number-for-group :
+    said (codes "group = 1") ≡ Some (codes "group is of type integer, and has to be of type string\n")
+unfolding on_reasons
+number-for-group = refl
+
+near-group : said (codes "goup = \"g\"") ≡ Some (codes "the key \"goup\" is unknown, and the nearest is \"group\"\n")
+unfolding on_reasons
+near-group = refl
+
+-- a file has no such key, and none is near
+first-in-file : said (codes "first = 1") ≡ Some (codes "the key \"first\" is unknown\n")
+unfolding on_reasons
+first-in-file = refl
+
 -- a letter of two bytes and an escape character
 quoted-bytes : quoted (195 ∷ 169 ∷ 27 ∷ codes "a") ≡ codes "\"???a\""
 quoted-bytes = refl
@@ -189,9 +239,9 @@ no-text = refl
 
 -- each known key has a kind, and there are as many as there are keys of all kinds
 known-keys-known : list_all (λ key. is_some (kind_of_key key)) known_keys ≡ true
-unfolding kind_of_key
+unfolding on_keys
 known-keys-known = refl
 
 known-keys-counted :
-    length known_keys ≡ length text_keys + length number_keys + 1 + 2 + length keys + length node_keys
+    length known_keys ≡ length text_keys + length number_keys + 1 + 2 + length file_keys + length node_keys
 known-keys-counted = refl

@@ -7,6 +7,7 @@ use Rattle.toml.specs.Data.{Members}
 use Rattle.lg_text.specs.Meaning.Cutting.{is_byte}
 use Rattle.lg_text.specs.Meaning.Lines.{newline}
 use Rattle.lg_timing.specs.declared.config.ConfigFault.{ConfigFault}
+use Rattle.lg_timing.specs.declared.config.ConfigFault.TheVariants.{Group}
 use Rattle.lg_timing.specs.declared.keys.Key.{Key}
 use Rattle.lg_timing.specs.Meaning.Keys.{config_fault_number, keys, row_of}
 use Rattle.lg_config.specs.declared.fault.FileFault.{FileFault}
@@ -15,23 +16,29 @@ use Rattle.lg_config.specs.declared.node_keys.NodeKey.TheVariants.{PullMs, Stall
 use Rattle.lg_config.specs.Meaning.Answer.{document_of}
 use Rattle.lg_config.specs.Meaning.Bounds.{most_bytes}
 use Rattle.lg_config.specs.Meaning.FormReasons.{key_file_reason, seeds_reason, value_reason}
+use Rattle.lg_config.specs.Meaning.GroupReasons.{group_reason}
 use Rattle.lg_config.specs.Meaning.KeyReasons.{key_reason}
 use Rattle.lg_config.specs.Meaning.Ranges.{member_reason, own_reason}
 use Rattle.lg_config.specs.Meaning.Settings.{seeds_at}
 use Rattle.lg_config.specs.Meaning.StatusReasons.{loopback_reason, open_reason, status_reason}
 
--- the key of the member's number that has a fault; None for the fault of the seeds
+-- the key of the member's number that has a fault; None for the faults of the seeds and of the group
 abbrev pub key_of_fault : ConfigFault → Option Key
 key_of_fault broken = find (λ key. config_fault_number (row_of key).fault == config_fault_number broken) keys
 
--- the reason of a number of the member's, or of the seeds
-abbrev pub config_reason : Option Key → Members → List ℕ
-config_reason (Some key) members = member_reason key members
-config_reason None members = seeds_reason (seeds_at members)
+-- the reason of a fault of no number: of the group, or else of the seeds
+abbrev pub unnumbered_reason : ConfigFault → Members → List ℕ
+unnumbered_reason Group members = group_reason members
+unnumbered_reason _ members = seeds_reason (seeds_at members)
+
+-- the reason of a fault that the check of a configuration finds, by the key of the member's number that has it
+abbrev pub config_reason : Option Key → ConfigFault → Members → List ℕ
+config_reason (Some key) _ members = member_reason key members
+config_reason None broken members = unnumbered_reason broken members
 
 -- The reason of a document's fault. A document that can be read hasn't the fault Syntax.
 abbrev pub reason_of : FileFault → Members → List ℕ
-reason_of (fault.Config broken) members = config_reason (key_of_fault broken) members
+reason_of (fault.Config broken) members = config_reason (key_of_fault broken) broken members
 reason_of fault.Syntax _ = codes "the file is TOML\n"
 reason_of fault.Key members = key_reason members
 reason_of fault.Value members = value_reason members

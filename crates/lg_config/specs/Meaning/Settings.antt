@@ -6,7 +6,7 @@ use Rattle.toml.specs.Data.{Data, Items, no_items, item, Members, get_member, as
 use Rattle.lg_rules.specs.declared.addr.Addr.{Addr}
 use Rattle.lg_rules.specs.declared.addr.Ip.TheVariants.{V4}
 use Rattle.lg_timing.specs.Meaning.Config.{defaults}
-use Rattle.lg_timing.specs.Meaning.Keys.{key_name, keys, number_of_key, with_number}
+use Rattle.lg_timing.specs.Meaning.Keys.{key_name, number_of_key, with_number}
 use Rattle.lg_timing.specs.declared.config.Config.{Config}
 use Rattle.lg_timing.specs.declared.config.Seed.{Seed}
 use Rattle.lg_timing.specs.declared.keys.Key.{Key}
@@ -14,7 +14,7 @@ use Rattle.lg_config.specs.declared.node.NodeConfig.{NodeConfig}
 use Rattle.lg_config.specs.declared.node_keys.NodeKey.{NodeKey}
 use Rattle.lg_config.specs.declared.node_keys.NodeKey.TheVariants.{PullMs, StallMs}
 use Rattle.lg_config.specs.Meaning.Bounds.{out_of_range, default_address, default_port, default_dice}
-use Rattle.lg_config.specs.Meaning.Keys.{texts_key}
+use Rattle.lg_config.specs.Meaning.Keys.{file_keys, texts_key}
 use Rattle.lg_config.specs.Meaning.NodeKeys.{node_key_name, node_row_of}
 use Rattle.lg_config.specs.Meaning.Texts.{◌>>=◌, port_among, octets_of, member_name_of, seed_of_text}
 
@@ -93,9 +93,9 @@ abbrev pub with_keys : List Key → Members → Config → Config
 with_keys [] _ usual = usual
 with_keys (key ∷ others) members usual = with_keys others members (with_key key members usual)
 
--- the same for all keys
+-- the same for all keys that a file may give
 unfoldable pub with_numbers : Members → Config → Config
-with_numbers members usual = with_keys keys members usual
+with_numbers members usual = with_keys file_keys members usual
 
 -- a number of the node's own, or its default
 abbrev pub own_number_in : NodeKey → Members → ℕ
@@ -105,8 +105,8 @@ own_number_in key members = number_at_key (node_key_name key) (node_row_of key).
 abbrev pub with_seeds : List Seed → Config → Config
 with_seeds seeds config = record config { seeds = record { items = seeds } }
 
--- All that a document says but of the status server and of the key file, which are read later. It may have too many
--- seeds, or numbers out of their ranges; that is judged later.
+-- All that a document says but of the status server, of the key file and of the group, which are read later. It may
+-- have too many seeds, or numbers out of their ranges; that is judged later.
 unfoldable pub settings_of : Members → Option NodeConfig
 settings_of members = do
   name ← name_in members

@@ -1,10 +1,13 @@
 -- Worked rows of what replies count. b is opened at 0; the others are a, c and d.
 use Rattle.std.specs.Prelude.{◌≡◌, true, false, List, [], ◌∷◌, ◌++◌, refl}
-use Rattle.lg_packet.specs.declared.packet.Body.TheVariants.{PingReq}
+use Rattle.lg_rules.specs.declared.claim.Status.TheVariants.{Left}
+use Rattle.lg_rules.specs.declared.version.Version.TheVariants.{Three}
+use Rattle.lg_timing.specs.Meaning.Config.{defaults}
+use Rattle.lg_packet.specs.declared.packet.Body.TheVariants.{Gossip, PingReq}
 use Rattle.lg_detector.specs.declared.event.Event.{Event}
-use Rattle.lg_detector.specs.declared.event.Event.TheVariants.{Leave}
-use Rattle.lg_detector.specs.Meaning.Examples.{by_computing, a, b, c, at, alive, suspect}
-use Rattle.lg_detector.specs.Meaning.Examples.{opening, pings, says, ticks}
+use Rattle.lg_detector.specs.declared.event.Event.TheVariants.{Leave, Open}
+use Rattle.lg_detector.specs.Meaning.Examples.{by_computing, a, b, c, at, alive, on, suspect}
+use Rattle.lg_detector.specs.Meaning.Examples.{opening, pings, says, says_in, ticks}
 use Rattle.lg_detector.specs.Meaning.Step.{reply_after}
 use Rattle.lg_counters.specs.declared.tally.Tally.{Tally}
 use Rattle.lg_counters.specs.Meaning.Tally.{tally_of}
@@ -19,6 +22,7 @@ nothing = record {
   probe_helped = false;
   suspicions_raised = 0;
   refuted = false;
+  members_forgotten = 0;
 }
 
 -- the events up to a Ping by which c is known
@@ -70,3 +74,21 @@ refutes_nothing_once_it_left :
     ≡ nothing
 unfolding by_computing
 refutes_nothing_once_it_left = refl
+
+-- b, which has the seed c, forgets who is gone after one second. c leaves at 10. The first tick at 1010 starts a round.
+abbrev opening_to_forget : Event
+opening_to_forget =
+    Open 0
+    (record (defaults (b ∷ []) (at 7000)) {
+      wire = 3;
+      gossip_ms = 0;
+      forget_ms = 1000;
+      seeds = record { items = record { name = c ∷ []; addr = at 7000 } ∷ [] };
+    })
+
+forgets_a_member :
+    tally_after
+    (opening_to_forget ∷ says_in Three 10 Gossip (on c Left 0 ∷ []) ∷ ticks 10 ∷ ticks 1010 ∷ []) (ticks 1010)
+    ≡ record nothing { members_forgotten = 1 }
+unfolding by_computing
+forgets_a_member = refl

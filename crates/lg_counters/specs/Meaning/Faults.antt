@@ -18,11 +18,13 @@ fault_name fault.Trailing = codes "Trailing"
 fault_name fault.Family = codes "Family"
 
 -- The faults for which datagrams are dropped, in the order in which they are shown: those of a packet in the order of
--- their numbers, and then those of a datagram that isn't sealed as a keyed link wants it.
+-- their numbers, then those of a datagram that isn't sealed as a keyed link wants it, and then that of a packet of
+-- another group.
 abbrev pub fault_names : List (List ℕ)
 fault_names =
     codes "Short" ∷ codes "Magic" ∷ codes "Version" ∷ codes "Kind" ∷ codes "Name" ∷ codes "Count" ∷ codes "ClaimKind"
-    ∷ codes "Incarnation" ∷ codes "Trailing" ∷ codes "Family" ∷ codes "Unsigned" ∷ codes "Forged" ∷ []
+    ∷ codes "Incarnation" ∷ codes "Trailing" ∷ codes "Family" ∷ codes "Unsigned" ∷ codes "Forged"
+    ∷ codes "OtherGroup" ∷ []
 
 -- there is one row for each fault, in this order
 abbrev pub AreOfFaults : List Drops → Type 0

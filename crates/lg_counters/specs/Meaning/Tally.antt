@@ -61,7 +61,7 @@ is_alive_of name c = bytes_eq c.name name && is_alive_status c.status
 
 -- A Ping begins a probe if a round starts with it. If no timer fired, it was asked for by another member. The record of
 -- this member becomes Alive only if it refutes a claim: its incarnation rises then. When it leaves, its record becomes
--- Left, and that refutes nothing.
+-- Left, and that refutes nothing. A member that was forgotten and is known again counts among the forgotten ones.
 abbrev pub tally_of : List ℕ → Reply → Tally
 tally_of name r = record {
   probe_begun = pings r && is_start r.fired;
@@ -69,6 +69,7 @@ tally_of name r = record {
   probe_helped = pings r && is_none r.fired;
   suspicions_raised = count_by is_suspected r.changed.items;
   refuted = list_any (is_alive_of name) r.changed.items;
+  members_forgotten = length r.forgotten.items;
 }
 
 -- What a node counts of a reply of which so many packets weren't sent: the others were.

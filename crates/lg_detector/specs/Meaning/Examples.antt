@@ -8,7 +8,7 @@ use Rattle.lg_rules.specs.declared.claim.Claim.{Claim}
 use Rattle.lg_rules.specs.declared.claim.Status.{Status}
 use Rattle.lg_rules.specs.declared.claim.Status.TheVariants.{Alive, Suspect, Failed}
 use Rattle.lg_rules.specs.Meaning.Own.{OwnValue, own_of}
-use Rattle.lg_rules.specs.Meaning.Table.{record_of, roster, table_of, takes}
+use Rattle.lg_rules.specs.Meaning.Table.{record_of, roster, story, table_of, takes}
 use Rattle.lg_timing.specs.declared.config.Seed.{Seed}
 use Rattle.lg_timing.specs.Meaning.Config.{check_of, defaults}
 use Rattle.lg_timing.specs.Meaning.Tables.{log10_of, ratio_of}
@@ -37,8 +37,8 @@ use Rattle.lg_detector.specs.Meaning.Step.{is_accepted, moment_after}
 
 -- What has to be unfolded to compute a worked event.
 unfoldable pub by_computing : Unit {0}
-unfolding digits own_of record_of roster table_of takes check_of log10_of ratio_of range_of timeout_of counted_accusers
-    taken_of in_turn suspicions suspected put_by queued queue_rows
+unfolding digits own_of record_of roster story table_of takes check_of log10_of ratio_of range_of timeout_of
+    counted_accusers taken_of in_turn suspicions suspected put_by queued queue_rows
 by_computing = tt
 
 -- the letters that name the members
@@ -122,6 +122,7 @@ nothing next =
       fired = None;
       sends = record { items = [] };
       changed = record { items = [] };
+      forgotten = record { items = [] };
       answer = None;
       ousted = false;
       next = next;

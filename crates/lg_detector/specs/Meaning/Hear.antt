@@ -1,9 +1,11 @@
 -- The event Heard: the claims of a packet are applied in their order, and then its body is handled (SWIM, section
 -- 3.1; Lifeguard, local health aware probe; Joining.antt).
-use Rattle.std.specs.Prelude.{ℕ, Bool, true, false, ◌&&◌, ◌||◌, not, List, [], ◌∷◌, Option, Some, None}
+use Rattle.std.specs.Prelude.{ℕ, Bool, true, ◌&&◌, ◌||◌, not, List, [], ◌∷◌, Option, Some, None}
 use Rattle.std.specs.Prelude.{if◌then◌else◌}
 use Rattle.lg_rules.specs.declared.addr.Addr.{Addr}
 use Rattle.lg_rules.specs.declared.claim.Claim.{Claim}
+use Rattle.lg_rules.specs.declared.version.Version.{Version}
+use Rattle.lg_rules.specs.declared.version.Version.TheVariants.{One, Two, Three}
 use Rattle.lg_rules.specs.Meaning.Rows.{name_cmp, is_same}
 use Rattle.lg_packet.specs.declared.packet.Body.{Body}
 use Rattle.lg_packet.specs.declared.packet.Body.TheVariants.{Ping, PingReq, Ack, Nack, Pull, Page, Gossip}
@@ -11,25 +13,22 @@ use Rattle.lg_packet.specs.declared.packet.Packet.{Packet}
 use Rattle.lg_probe.specs.declared.relays.Asker.{Asker}
 use Rattle.lg_probe.specs.declared.relays.Relay.{Relay}
 use Rattle.lg_probe.specs.Meaning.Relays.{ended_asker}
-use Rattle.lg_membership.specs.declared.origin.Origin.TheVariants.{Group}
+use Rattle.lg_membership.specs.Meaning.Gossip.{version_sent}
 use Rattle.lg_membership.specs.Meaning.Log as group
 use Rattle.lg_detector.specs.declared.message.Message.{Message}
 use Rattle.lg_detector.specs.declared.reply.Outgoing.{Outgoing}
 use Rattle.lg_detector.specs.Meaning.Log.{Log, AckHeard, NackHeard, Relayed, group_log}
-use Rattle.lg_detector.specs.Meaning.Apply.{come, apply_all}
+use Rattle.lg_detector.specs.Meaning.Apply.{come, hear_each}
+use Rattle.lg_detector.specs.Meaning.Groups.{own_group, is_of_group}
 use Rattle.lg_detector.specs.Meaning.Joining.{page_behind, next_pull, last_of_full}
 use Rattle.lg_detector.specs.Meaning.Probing.{number}
 use Rattle.lg_detector.specs.Meaning.Relaying.{relays, is_full}
 use Rattle.lg_detector.specs.Meaning.Send.{send_all, packets}
 
--- What of a packet is heard. A member has no group so far, so it hears nothing of a packet that names one. Such a
--- packet is an event that only moves the moment on (this project's choice).
-abbrev pub has_no_group : Option (List ℕ) → Bool
-has_no_group None = true
-has_no_group (Some group) = false
-
-abbrev pub claims_heard : Packet → List Claim
-claims_heard packet = if has_no_group packet.group then packet.claims.items else []
+-- What of a packet is heard by a member of this group, or of none: nothing if the packet isn't of its group. Such a
+-- packet is dropped: it is an event that only moves the moment on (this project's choice).
+abbrev pub claims_heard : Option (List ℕ) → Packet → List Claim
+claims_heard mine packet = if is_of_group mine packet then packet.claims.items else []
 
 -- An Ack or a Nack for another receiver than this member does what a Gossip does: nothing but its claims are heard.
 abbrev pub is_for : List ℕ → Option (List ℕ) → Bool
@@ -45,8 +44,8 @@ is_meant me (Pull after) = true
 is_meant me Page = true
 is_meant me Gossip = true
 
-abbrev pub body_heard : List ℕ → Packet → Body
-body_heard me packet = if has_no_group packet.group && is_meant me packet.body then packet.body else Gossip
+abbrev pub body_heard : Option (List ℕ) → List ℕ → Packet → Body
+body_heard mine me packet = if is_of_group mine packet && is_meant me packet.body then packet.body else Gossip
 
 -- The packet that responds to a body, if there is one. A Ping or a PingReq for this member gets an Ack with its
 -- number. A PingReq for another member (an indirect probe) is relayed as a Ping, with the next sequence number, to
@@ -106,13 +105,31 @@ note source sender Gossip log = log
 abbrev pub respond : Addr → List ℕ → Body → Log → Log
 respond source sender body log = send_all (response source sender body log) (note source sender body log)
 
--- the claims of a packet are applied
+-- the group of this member, if it has one
+abbrev pub my_group : Log → Option (List ℕ)
+my_group log = own_group (group.config (group_log log))
+
+-- Who tells a table by a packet: the sender of a Page. A member goes by that only if it sends version three, and
+-- whatever the Page's version is (this project's choice).
+abbrev pub page_sender : Body → List ℕ → Option (List ℕ)
+page_sender Page sender = Some sender
+page_sender _ sender = None
+
+abbrev pub table_teller : Version → Packet → Option (List ℕ)
+table_teller One packet = None
+table_teller Two packet = None
+table_teller Three packet = page_sender packet.body packet.sender
+
+-- The claims of a packet are applied, and members are forgotten where one of them lacks room. Those of a table are
+-- merged gently.
 abbrev pub hear_claims : ℕ → Packet → Log → Log
-hear_claims now packet log = apply_all Group (claims_heard packet) (come now log)
+hear_claims now packet log =
+    let teller = table_teller (version_sent (group.config (group_log log))) packet in
+    hear_each teller (claims_heard (my_group log) packet) (come now log)
 
 -- what its body means to this member once its claims were applied
 abbrev pub body_meant : Packet → Log → Body
-body_meant packet log = body_heard (group.me (group_log log)) packet
+body_meant packet log = body_heard (my_group log) (group.me (group_log log)) packet
 
 abbrev pub hear : ℕ → Addr → Packet → Log → Log
 hear now source packet log =

@@ -14,17 +14,18 @@ use Rattle.lg_membership.specs.Meaning.Log as group
 use Rattle.lg_membership.specs.Meaning.Log.{group_view}
 use Rattle.lg_membership.specs.Meaning.Pages.{page_of}
 use Rattle.lg_detector.specs.declared.reply.Outgoing.{Outgoing}
+use Rattle.lg_detector.specs.Meaning.Groups.{own_group}
 use Rattle.lg_detector.specs.Meaning.Log.{Log, group_log}
 use Rattle.lg_detector.specs.Meaning.Apply.{come}
 
--- a packet of this version that is sent with these claims
-abbrev pub with_claims : Addr → Version → List ℕ → Body → List Claim → Outgoing
-with_claims to version sender body claims =
+-- a packet of this version and group that is sent with these claims
+abbrev pub with_claims : Addr → Version → Option (List ℕ) → List ℕ → Body → List Claim → Outgoing
+with_claims to version group sender body claims =
     record {
       to = to;
       packet = record {
         version = version;
-        group = None;
+        group = group;
         sender = sender;
         body = body;
         claims = record { items = claims };
@@ -40,7 +41,8 @@ abbrev pub own_packet : Addr → Body → Log → Outgoing
 own_packet to body log =
     let members = group_log log in
     let version = version_sent (group.config members) in
-    with_claims to version (group.me members) body (own_told version (own_record (group.own members)))
+    let mine = own_group (group.config members) in
+    with_claims to version mine (group.me members) body (own_told version (own_record (group.own members)))
 
 abbrev pub pull_after : Addr → Option (List ℕ) → Log → Outgoing
 pull_after to after log = own_packet to (Pull after) log
@@ -50,7 +52,8 @@ abbrev pub page_behind : Addr → Option (List ℕ) → Log → Outgoing
 page_behind to after log =
     let members = group_log log in
     let version = version_sent (group.config members) in
-    with_claims to version (group.me members) Page (page_of version after (group_view members))
+    let mine = own_group (group.config members) in
+    with_claims to version mine (group.me members) Page (page_of version after (group_view members))
 
 -- A Page is full if it has as many claims as a packet of its version has room for. It is answered by a Pull for the
 -- records after its last claim, whether or not that one was known.

@@ -7,13 +7,11 @@ use Rattle.lg_timing.specs.declared.config.Seed.{Seed}
 use Rattle.lg_timing.specs.Meaning.Config.{defaults}
 use Rattle.lg_packet.specs.declared.packet.Body.TheVariants.{Ping, Ack, Page, Gossip}
 use Rattle.lg_detector.specs.declared.event.Event.{Event}
-use Rattle.lg_detector.specs.declared.event.Event.TheVariants.{Open, Heard, Health, Leave}
+use Rattle.lg_detector.specs.declared.event.Event.TheVariants.{Open, Health, Leave}
 use Rattle.lg_detector.specs.declared.reply.Answer.TheVariants.{Health as OfHealth}
-use Rattle.lg_detector.specs.declared.reply.Outgoing.{Outgoing}
-use Rattle.lg_detector.specs.Meaning.Log.{Log}
 use Rattle.lg_detector.specs.Meaning.Window.{targets}
 use Rattle.lg_detector.specs.Meaning.Step.{reply_after, view_after}
-use Rattle.lg_detector.specs.Meaning.Examples.{by_computing, a, b, c, at, alive, on, suspect, says_in, sent_in, nothing}
+use Rattle.lg_detector.specs.Meaning.Examples.{by_computing, a, b, c, at, on, suspect, says_in, sent_in, nothing}
 use Rattle.lg_detector.specs.Meaning.Examples.{log_after, start_of_round, ticks}
 
 -- b is opened with a `wire` and these seeds, and gossips no news.
@@ -47,7 +45,13 @@ it_tells_both :
         items =
             record {
               to = at 7003;
-              packet = record { version = Three; group = None; sender = b ∷ []; body = Gossip; claims = record { items = left b ∷ [] } };
+              packet = record {
+                version = Three;
+                group = None;
+                sender = b ∷ [];
+                body = Gossip;
+                claims = record { items = left b ∷ [] };
+              };
             }
             ∷ sent_in Three 7001 Gossip (left b ∷ []);
       };
@@ -57,12 +61,14 @@ unfolding by_computing
 it_tells_both = refl
 
 -- A further leave does nothing.
-once_is_enough : reply_after (opening_in 3 (seed a 7001 ∷ seed c 7003 ∷ []) ∷ leaves_by 10 1 7 ∷ []) (leaves 30) ≡ nothing 0
+once_is_enough :
+    reply_after (opening_in 3 (seed a 7001 ∷ seed c 7003 ∷ []) ∷ leaves_by 10 1 7 ∷ []) (leaves 30) ≡ nothing 0
 unfolding by_computing
 once_is_enough = refl
 
 -- b counts itself all the same.
-it_still_counts : (reply_after (opening_in 3 (seed c 7003 ∷ []) ∷ leaves 10 ∷ []) (Health 30)).answer ≡ Some (OfHealth 0 0 2)
+it_still_counts :
+    (reply_after (opening_in 3 (seed c 7003 ∷ []) ∷ leaves 10 ∷ []) (Health 30)).answer ≡ Some (OfHealth 0 0 2)
 unfolding by_computing
 it_still_counts = refl
 
@@ -114,7 +120,8 @@ a_round_chooses_nobody :
 unfolding by_computing
 a_round_chooses_nobody = refl
 
-the_targets_end : targets (log_after (opening_in 3 (seed c 7003 ∷ []) ∷ ticks 0 ∷ leaves 100 ∷ ticks 1100 ∷ [])) [] ≡ (c ∷ []) ∷ []
+the_targets_end :
+    targets (log_after (opening_in 3 (seed c 7003 ∷ []) ∷ ticks 0 ∷ leaves 100 ∷ ticks 1100 ∷ [])) [] ≡ (c ∷ []) ∷ []
 unfolding by_computing
 the_targets_end = refl
 

@@ -12,7 +12,7 @@ use Rattle.lg_probe.specs.declared.relays.Asker.{Asker}
 -- - Relayed: a relay to the target of this name was opened for this asker;
 -- - Ended: what the event did is done;
 -- - OfGroup: a fact that concerns the group. The member was opened, a claim was applied, a packet was sent that took
---   claims of the queue, or the member left.
+--   claims of the queue, the member left, or it forgot a name.
 pub data Fact : Type 0 where
   Came : ℕ → Fact
   Fired : Timer → List ℕ → Fact

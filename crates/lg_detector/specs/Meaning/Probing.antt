@@ -1,6 +1,6 @@
 -- The rounds of probing: who is chosen, the probe that runs, who helps, and what came of it (SWIM, sections 3.1 and
 -- 4.3; Lifeguard, local health aware probe).
-use Rattle.std.specs.Prelude.{ℕ, ◌+◌, Bool, true, false, not, ◌&&◌, List}
+use Rattle.std.specs.Prelude.{ℕ, ◌+◌, ◌==◌, Bool, true, false, not, ◌&&◌, List}
 use Rattle.std.specs.Prelude.{[], ◌∷◌, Option, Some, None, option_map}
 use Rattle.std.specs.Prelude.{is_some, slice_index, if◌then◌else◌}
 use Rattle.lg_rules.specs.declared.claim.Claim.{Claim}
@@ -37,7 +37,7 @@ abbrev pub chooses : TimerId → Log → Bool
 chooses id log = is_round_start id && not (has_left log)
 
 -- The names chosen in the current cycle, the latest first. These are the choice of the last start of a round that
--- found no candidate, and all choices since.
+-- found no candidate, and all choices since. A name that is forgotten counts as chosen no longer.
 abbrev pub first_word : List ℕ → ℕ
 first_word words = slice_index words 0
 
@@ -48,6 +48,7 @@ cycle_names (Fired timer words ∷ log) =
     if chooses timer.id log
     then next_cycle (others log) (cycle_names log) (first_word words)
     else cycle_names log
+cycle_names (OfGroup (group.Forgot m) ∷ log) = without m (cycle_names log)
 cycle_names (_ ∷ log) = cycle_names log
 
 -- The candidates of the next start of a round: the others that aren't among these names, or all of the others if each
@@ -64,16 +65,24 @@ chosen words log = if has_left log then None else candidate (first_word words) (
 abbrev pub starts : TimerId → List ℕ → Log → Bool
 starts id words log = is_round_start id && is_some (chosen words log)
 
--- the first sequence number (this project's choice)
-abbrev pub first_number : ℕ
-first_number = 1
+-- The sequence numbers of probes and relays are 1 to 4,294,967,295. Behind the greatest comes 1 again (this project's
+-- choice).
+abbrev pub lowest_number : ℕ
+lowest_number = 1
 
--- the next sequence number: each probe and each relay that was started since the opening took one
+abbrev pub highest_number : ℕ
+highest_number = 4294967295
+
+abbrev pub next_number : ℕ → ℕ
+next_number k = if k == highest_number then lowest_number else k + 1
+
+-- The sequence number that comes next. The configuration says the first one, and each probe and each relay that was
+-- started since the opening took one.
 abbrev pub number : Log → ℕ
-number [] = first_number
-number (OfGroup (group.Opened opening) ∷ log) = first_number
-number (Fired timer words ∷ log) = if starts timer.id words log then number log + 1 else number log
-number (Relayed target asker ∷ log) = number log + 1
+number [] = lowest_number
+number (OfGroup (group.Opened opening) ∷ log) = opening.first
+number (Fired timer words ∷ log) = if starts timer.id words log then next_number (number log) else number log
+number (Relayed target asker ∷ log) = next_number (number log)
 number (_ ∷ log) = number log
 
 -- The probe that runs: that of the last start of a round that chose a target, unless a round has ended since, or this

@@ -3,8 +3,8 @@
 -- another (SWIM, section 4.1). So are Gossips. A Ping for a suspected member begins with its record (Lifeguard's buddy
 -- system), and in version 3 so does an Ack for a suspected or failed one. Nacks, Pulls and Pages take none (this
 -- project's choice); which claims Pulls and Pages have is in Joining.antt.
--- Each packet has the version of the sender's own configuration, whichever versions the sender hears, and no group
--- (this project's choice).
+-- Each packet has the version and the group of the sender's own configuration, whichever versions the sender hears. It
+-- has no group if the sender has none (this project's choice).
 use Rattle.std.specs.Prelude.{ℕ, List, [], ◌∷◌, Option, Some, None}
 use Rattle.lg_rules.specs.declared.claim.Claim.{Claim}
 use Rattle.lg_rules.specs.declared.version.Version.{Version}
@@ -17,6 +17,7 @@ use Rattle.lg_membership.specs.Meaning.Gossip.{taken, fill, version_sent}
 use Rattle.lg_membership.specs.Meaning.Log as group
 use Rattle.lg_detector.specs.declared.message.Message.{Message}
 use Rattle.lg_detector.specs.declared.reply.Outgoing.{Outgoing}
+use Rattle.lg_detector.specs.Meaning.Groups.{own_group}
 use Rattle.lg_detector.specs.Meaning.Log.{Log, OfGroup, group_log}
 
 -- The body that is sent: versions one and two don't tell the receiver of an Ack or a Nack.
@@ -60,7 +61,7 @@ outgoing message log =
       to = message.to;
       packet = record {
         version = version;
-        group = None;
+        group = own_group (group.config (group_log log));
         sender = sender;
         body = body_told version message.body;
         claims = record { items = claims };

@@ -31,6 +31,7 @@ use Rattle.lg_detector.specs.declared.reply.Answer.{Answer}
 use Rattle.lg_detector.specs.declared.reply.Outgoing.{Outgoing}
 use Rattle.lg_detector.specs.declared.reply.Reply.{Reply}
 use Rattle.lg_detector.specs.declared.standing.Standing.{Standing}
+use Rattle.lg_detector.specs.Meaning.Forget.{forgotten}
 use Rattle.lg_detector.specs.Meaning.Log.{Log, Ended, group_log, moment}
 use Rattle.lg_detector.specs.Meaning.Timing.{due, pending, deadline_in, or_zero}
 use Rattle.lg_detector.specs.Meaning.Apply.{come}
@@ -82,6 +83,10 @@ changed_by (Tick now words) log = changed (view log) (view (tick now words log))
 changed_by (Leave now words) log = changed (view log) (view (leave now log))
 changed_by _ log = []
 
+-- the names that were forgotten, in order, also one that is known again;
+abbrev pub forgotten_by : Event → Log → List (List ℕ)
+forgotten_by e log = forgotten (happen e log)
+
 -- the answer to a question;
 abbrev pub answer_by : Event → Log → Option Answer
 answer_by (Ask now name) log = Some (status name log)
@@ -96,6 +101,7 @@ reply e log =
       fired = fired_by e log;
       sends = record { items = sends_by e log };
       changed = record { items = changed_by e log };
+      forgotten = record { items = forgotten_by e log };
       answer = answer_by e log;
       ousted = (group.own (group_log behind)).ousted;
       next = or_zero (deadline_in (pending behind));

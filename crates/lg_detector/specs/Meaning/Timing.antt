@@ -16,12 +16,13 @@ use Rattle.lg_suspicion.specs.Meaning.Accusers.{deadline_of}
 use Rattle.lg_timers.specs.declared.timer.Timer.{Timer}
 use Rattle.lg_timers.specs.declared.timer.TimerId.{TimerId}
 use Rattle.lg_timers.specs.declared.timer.TimerId.TheVariants.{RoundEnd, Suspicion, Direct}
-use Rattle.lg_timers.specs.declared.timer.TimerId.TheVariants.{RelayNack, RelayEnd, RoundStart, Gossip}
+use Rattle.lg_timers.specs.declared.timer.TimerId.TheVariants.{RelayNack, RelayEnd, RoundStart, Forget, Gossip}
 use Rattle.lg_timers.specs.Meaning.Timers.{in_turn, least_of, due_of}
 use Rattle.lg_probe.specs.Meaning.Round.{RoundFact, RoundValue, Asked, is_acked, is_first_ack, mark_of}
 use Rattle.lg_membership.specs.Meaning.Gossip.{news}
 use Rattle.lg_membership.specs.Meaning.Log as group
 use Rattle.lg_membership.specs.Meaning.Suspicions.{SuspectedValue, suspicions}
+use Rattle.lg_detector.specs.Meaning.Forget.{Gone, gone}
 use Rattle.lg_detector.specs.Meaning.Log.{Log, Fired, AckHeard, Ended, OfGroup, moment, group_log}
 use Rattle.lg_detector.specs.Meaning.Probing.{Probe, is_round_start, chosen, others, probe, since_start, round}
 use Rattle.lg_detector.specs.Meaning.Relaying.{relays, opened_at, relay_has_nacked}
@@ -215,19 +216,25 @@ gossip_timers None = []
 gossip_timers (Some deadline) = gossip_timer deadline ∷ []
 
 -- The timers that are set, in the order in which they fire: those of the round, that of the next gossip, those of the
--- relays, and the deadline of each suspicion. Each accuser that counts brings that deadline nearer, as lg_suspicion
--- says.
+-- relays, the deadline of each suspicion, and when each member that is gone is forgotten. Each accuser that counts
+-- brings the deadline of a suspicion nearer, as lg_suspicion says.
 abbrev pub suspicion_timer : SuspectedValue → Timer
 suspicion_timer r = record { deadline = deadline_of r.suspicion; id = Suspicion r.name }
 
 abbrev pub suspicion_timers : Log → List Timer
 suspicion_timers log = map suspicion_timer (suspicions (group_log log))
 
+abbrev pub forget_timer : Gone → Timer
+forget_timer r = record { deadline = r.deadline; id = Forget r.name }
+
+abbrev pub forget_timers : Log → List Timer
+forget_timers log = map forget_timer (gone (group_log log))
+
 abbrev pub pending : Log → List Timer
 pending log =
     in_turn (
     (round_timers log ++ gossip_timers (gossip_at log))
-    ++ (nack_timers log ++ (relay_timers log ++ suspicion_timers log)))
+    ++ (nack_timers log ++ (relay_timers log ++ (suspicion_timers log ++ forget_timers log))))
 
 -- the first of the timers that are due
 abbrev pub due : Log → Option Timer

@@ -6,7 +6,6 @@ use Rattle.lg_rules.specs.declared.claim.Claim.{Claim}
 use Rattle.lg_rules.specs.declared.claim.Status.TheVariants.{Alive}
 use Rattle.lg_rules.specs.declared.version.Version.TheVariants.{One, Two, Three}
 use Rattle.lg_timing.specs.Meaning.Config.{defaults}
-use Rattle.lg_packet.specs.declared.packet.Body.{Body}
 use Rattle.lg_packet.specs.declared.packet.Body.TheVariants.{Ping, PingReq, Ack, Nack, Pull, Page, Gossip}
 use Rattle.lg_detector.specs.declared.event.Event.{Event}
 use Rattle.lg_detector.specs.declared.event.Event.TheVariants.{Open, Heard, Pull as Pulls}
@@ -72,7 +71,7 @@ a_nack_for_another : is_meant (b ∷ []) (Nack 1 (Some (d ∷ []))) ≡ is_meant
 a_nack_for_another = refl
 
 -- GROUPS
--- Nothing of a packet that names a group is heard.
+-- b has no group, so it hears nothing of a packet that names one. GroupExamples has a b with a group.
 abbrev of_group_g : Event
 of_group_g =
     Heard 5 (at 1)

@@ -4,12 +4,14 @@ use Rattle.lg_rules.specs.declared.addr.Addr.{Addr}
 use Rattle.lg_packet.specs.declared.packet.Body.{Body}
 use Rattle.lg_packet.specs.declared.packet.Body.TheVariants.{Ping, PingReq, Ack, Nack, Pull, Page, Gossip}
 use Rattle.lg_packet.specs.declared.packet.Packet.{Packet}
-use Rattle.lg_membership.specs.declared.origin.Origin.TheVariants.{Group}
+use Rattle.lg_membership.specs.Meaning.Gossip.{version_sent}
 use Rattle.lg_detector.specs.declared.reply.Outgoing.{Outgoing}
+use Rattle.lg_detector.specs.Meaning.Groups.{own_group}
 use Rattle.lg_detector.specs.Meaning.Hear.{asker_from, body_heard, claims_heard, response_by, is_relayed}
+use Rattle.lg_detector.specs.Meaning.Hear.{table_teller}
 use Rattle.lg_detector.specs.Meaning.Joining.{last_of_full}
 use Rattle.lg_detector.specs.declared.message.Message.{Message}
-use Rattle.lg_detector.specs.Support.State.{State, come_state, apply_all_state, hear_ack, hear_nack, open_relay}
+use Rattle.lg_detector.specs.Support.State.{State, come_state, hear_each_state, hear_ack, hear_nack, open_relay}
 use Rattle.lg_detector.specs.Support.Joining.{page_behind_state, next_pull_state}
 use Rattle.lg_detector.specs.Support.Send.{send_all_state, packets_state}
 
@@ -32,10 +34,12 @@ respond_state source sender body s =
     send_all_state (response_state source sender body s) (note_state source sender body s)
 
 abbrev pub hear_claims_state : ℕ → Packet → State → State
-hear_claims_state now packet s = apply_all_state Group (claims_heard packet) (come_state now s)
+hear_claims_state now packet s =
+    let teller = table_teller (version_sent s.membership.config) packet in
+    hear_each_state teller (claims_heard (own_group s.membership.config) packet) (come_state now s)
 
 abbrev pub body_meant_state : Packet → State → Body
-body_meant_state packet s = body_heard s.membership.own.name packet
+body_meant_state packet s = body_heard (own_group s.membership.config) s.membership.own.name packet
 
 abbrev pub answer_state : Addr → Packet → State → State
 answer_state source packet s = respond_state source packet.sender (body_meant_state packet s) s

@@ -9,13 +9,15 @@ use Rattle.lg_membership.specs.Meaning.Gossip.{version_sent}
 use Rattle.lg_membership.specs.Meaning.Pages.{page_of}
 use Rattle.lg_membership.specs.Support.State.{shown}
 use Rattle.lg_detector.specs.declared.reply.Outgoing.{Outgoing}
+use Rattle.lg_detector.specs.Meaning.Groups.{own_group}
 use Rattle.lg_detector.specs.Meaning.Joining.{own_told, with_claims}
 use Rattle.lg_detector.specs.Support.State.{State, come_state}
 
 abbrev pub own_packet_state : Addr → Body → State → Outgoing
 own_packet_state to body s =
     let version = version_sent s.membership.config in
-    with_claims to version s.membership.own.name body (own_told version (own_record s.membership.own))
+    let mine = own_group s.membership.config in
+    with_claims to version mine s.membership.own.name body (own_told version (own_record s.membership.own))
 
 abbrev pub pull_after_state : Addr → Option (List ℕ) → State → Outgoing
 pull_after_state to after s = own_packet_state to (Pull after) s
@@ -23,7 +25,8 @@ pull_after_state to after s = own_packet_state to (Pull after) s
 abbrev pub page_behind_state : Addr → Option (List ℕ) → State → Outgoing
 page_behind_state to after s =
     let version = version_sent s.membership.config in
-    with_claims to version s.membership.own.name Page (page_of version after (shown s.membership))
+    let mine = own_group s.membership.config in
+    with_claims to version mine s.membership.own.name Page (page_of version after (shown s.membership))
 
 abbrev pub next_pull_state : Addr → Option Claim → State → List Outgoing
 next_pull_state to None s = []

@@ -1,5 +1,5 @@
 -- The event Leave, as functions of the state.
-use Rattle.std.specs.Prelude.{ℕ, List, [], ◌∷◌, option_map, if◌then◌else◌}
+use Rattle.std.specs.Prelude.{ℕ, List, [], option_map, if◌then◌else◌}
 use Rattle.std.specs.List.{filter_map}
 use Rattle.lg_rules.specs.declared.claim.Claim.{Claim}
 use Rattle.lg_probe.specs.Meaning.Helpers.{picked}

@@ -1,5 +1,5 @@
 -- The packets that are sent, as functions of the state.
-use Rattle.std.specs.Prelude.{List, [], ◌∷◌, Some, None}
+use Rattle.std.specs.Prelude.{List, [], ◌∷◌}
 use Rattle.lg_rules.specs.declared.claim.Claim.{Claim}
 use Rattle.lg_packet.specs.declared.packet.Body.{Body}
 use Rattle.lg_packet.specs.declared.packet.Body.TheVariants.{Ping, PingReq, Ack, Nack, Pull, Page, Gossip}
@@ -8,6 +8,7 @@ use Rattle.lg_membership.specs.Support.State.{taken_in, fill_in}
 use Rattle.lg_detector.specs.declared.reply.Outgoing.{Outgoing}
 use Rattle.lg_detector.specs.declared.message.Message.{Message}
 use Rattle.lg_membership.specs.declared.addressee.Addressee.TheVariants.{Anybody, Pinged}
+use Rattle.lg_detector.specs.Meaning.Groups.{own_group}
 use Rattle.lg_detector.specs.Meaning.Send.{acked_one, body_told}
 use Rattle.lg_detector.specs.Support.State.{State, send_taken}
 
@@ -29,7 +30,7 @@ outgoing_state message s =
       to = message.to;
       packet = record {
         version = version;
-        group = None;
+        group = own_group s.membership.config;
         sender = sender;
         body = body_told version message.body;
         claims = record { items = claims };

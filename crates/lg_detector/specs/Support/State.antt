@@ -1,20 +1,21 @@
 -- The state of a detector as plain data, and what each fact does to it.
-use Rattle.std.specs.Prelude.{ℕ, ◌+◌, max, pos, negsuc, Bool, true, false, List, [], ◌∷◌}
+use Rattle.std.specs.Prelude.{ℕ, ◌+◌, max, pos, negsuc, Bool, true, false, List, [], ◌∷◌, ◌++◌, map, filter}
 use Rattle.std.specs.Prelude.{Option, Some, None, option_map, is_some, length, ◌==◌, ◌&&◌, not, if◌then◌else◌}
 use Rattle.lg_rules.specs.declared.claim.Claim.{Claim}
-use Rattle.lg_rules.specs.Meaning.Rows.{name_cmp, in_order}
+use Rattle.lg_rules.specs.Meaning.Claim.{is_gone, name_of}
+use Rattle.lg_rules.specs.Meaning.Rows.{name_cmp, is_same, is_among, in_order}
 use Rattle.lg_timing.specs.declared.config.Config.{Config}
 use Rattle.lg_timing.specs.Meaning.Score.{ScoreValue, marked}
 use Rattle.lg_timers.specs.declared.timer.Timer.{Timer}
 use Rattle.lg_timers.specs.declared.timer.TimerId.{TimerId}
 use Rattle.lg_timers.specs.declared.timer.TimerId.TheVariants.{RoundEnd, Suspicion, Direct}
-use Rattle.lg_timers.specs.declared.timer.TimerId.TheVariants.{RelayNack, RelayEnd, RoundStart, Gossip}
-use Rattle.lg_timers.specs.Meaning.Timers.{with_timer, without_timer}
+use Rattle.lg_timers.specs.declared.timer.TimerId.TheVariants.{RelayNack, RelayEnd, RoundStart, Forget, Gossip}
+use Rattle.lg_timers.specs.Meaning.Timers.{with_timer, without_timer, first_forget}
 use Rattle.lg_rules.specs.Meaning.Table.{live_in}
 use Rattle.lg_gossip.specs.Meaning.Queue.{has_news}
 use Rattle.lg_probe.specs.declared.relays.Asker.{Asker}
 use Rattle.lg_probe.specs.declared.relays.Relay.{Relay}
-use Rattle.lg_probe.specs.Meaning.Order.{OrderValue, Joined, Left, Chose, choice, order_with}
+use Rattle.lg_probe.specs.Meaning.Order.{OrderValue, Joined, Left, Chose, Forgot, choice, order_with}
 use Rattle.lg_probe.specs.Meaning.Relays.{Opened, TargetAcked, Closed, ended_asker}
 use Rattle.lg_probe.specs.Support.Relays.{relays_with}
 use Rattle.lg_probe.specs.Meaning.Round.{RoundValue, Asked, Acked, Nacked, mark_of, round_of, round_with}
@@ -23,13 +24,17 @@ use Rattle.lg_membership.specs.declared.applied.Deadline.TheVariants.{Stays, End
 use Rattle.lg_membership.specs.declared.applied.Presence.{Presence}
 use Rattle.lg_membership.specs.declared.applied.Presence.TheVariants as presence
 use Rattle.lg_membership.specs.declared.origin.Origin.{Origin}
+use Rattle.lg_membership.specs.declared.origin.Origin.TheVariants.{Group}
 use Rattle.lg_membership.specs.Meaning.Gossip.{version_sent}
+use Rattle.lg_membership.specs.Meaning.Log.{forgets_in}
 use Rattle.lg_membership.specs.Support.State as group
 use Rattle.lg_membership.specs.Support.State.{GroupState, apply_to_group, group_state_of, open_group}
-use Rattle.lg_membership.specs.Support.State.{leave_group, send_from_group}
+use Rattle.lg_membership.specs.Support.State.{forget_from_group, needs_room_in, leave_group, send_from_group}
+use Rattle.lg_detector.specs.Meaning.Apply.{merged}
+use Rattle.lg_detector.specs.Meaning.Forget.{forget_time}
 use Rattle.lg_detector.specs.Meaning.Log.{Log, event_count, moment, group_log}
 use Rattle.lg_detector.specs.Meaning.Probing as probing
-use Rattle.lg_detector.specs.Meaning.Probing.{asked_about, first_number, first_word, indirect_in, helpers_of}
+use Rattle.lg_detector.specs.Meaning.Probing.{asked_about, first_word, indirect_in, helpers_of, next_number}
 use Rattle.lg_detector.specs.Meaning.Relaying as relaying
 use Rattle.lg_detector.specs.Meaning.Relaying.{new_relay}
 use Rattle.lg_detector.specs.Meaning.Timing.{score, pending, scaled_interval, scaled_timeout, nack_time, relay_time}
@@ -77,24 +82,38 @@ begin opening s = record s {
   score = record { value = 0; max = opening.max_score };
   timers = start_timer s.moment ∷ [];
   order = record { names = []; chosen = [] };
-  number = first_number;
+  number = opening.first;
   round = None;
   gossip = None;
   relays = [];
   membership = open_group opening s.membership;
 }
 
--- once a claim is applied: the score, the timer of the member's suspicion by what became of its deadline, and the
--- order by what became of the member's presence
+-- once a claim is applied: the score, the timer of the member's suspicion by what became of its deadline, the timer
+-- that forgets the member by the record that it has then, and the order by what became of the member's presence
 abbrev pub marked_if : Bool → ScoreValue → ScoreValue
 marked_if true s = marked s (pos 1)
 marked_if false s = s
 
-abbrev pub follow : List ℕ → Deadline → List Timer → List Timer
-follow m Stays timers = timers
-follow m Ends timers = without_timer (Suspicion m) timers
-follow m (Stands deadline) timers =
-    with_timer (record { deadline = deadline; id = Suspicion m }) (without_timer (Suspicion m) timers)
+abbrev pub follow : TimerId → Deadline → List Timer → List Timer
+follow id Stays timers = timers
+follow id Ends timers = without_timer id timers
+follow id (Stands deadline) timers = with_timer (record { deadline = deadline; id = id }) (without_timer id timers)
+
+-- What becomes of the moment at which a member is forgotten once its record changed, if it did: it is set anew if the
+-- member is gone, and else there is none. This member itself is never forgotten.
+abbrev pub until_forgotten : Bool → ℕ → Deadline
+until_forgotten gone later = if gone then Stands later else Ends
+
+abbrev pub forget_after : Option Config → List ℕ → ℕ → Option Claim → Deadline
+forget_after opened me now None = Stays
+forget_after opened me now (Some r) =
+    if forgets_in opened && not (is_same name_cmp r.name me)
+    then until_forgotten (is_gone r.status) (now + forget_time opened)
+    else Stays
+
+abbrev pub forget_deadline : ℕ → Option Claim → GroupState → Deadline
+forget_deadline now changed after = forget_after after.config after.own.name now changed
 
 abbrev pub reorder : List ℕ → Presence → OrderValue → OrderValue
 reorder m presence.Stays order = order
@@ -105,16 +124,70 @@ reorder m presence.Leaves order = order_with order (Left m)
 unfoldable pub apply_state : Origin → Claim → State → State
 apply_state origin c s =
     let applied = group.applied s.moment c s.membership in
+    let after = apply_to_group s.moment origin c s.membership in
+    let until = forget_deadline s.moment applied.changed after in
     record s {
       score = marked_if applied.refuted s.score;
-      timers = follow c.name applied.deadline s.timers;
+      timers = follow (Forget c.name) until (follow (Suspicion c.name) applied.deadline s.timers);
       order = reorder c.name applied.presence s.order;
-      membership = apply_to_group s.moment origin c s.membership;
+      membership = after;
     }
 
 abbrev pub apply_all_state : Origin → List Claim → State → State
 apply_all_state origin [] s = s
 apply_all_state origin (c ∷ cs) s = apply_all_state origin cs (apply_state origin c s)
+
+-- a name is forgotten
+unfoldable pub forget_name : List ℕ → State → State
+forget_name m s = record s {
+  timers = without_timer (Forget m) (without_timer (Suspicion m) s.timers);
+  order = order_with s.order (Forgot m);
+  membership = forget_from_group m s.membership;
+}
+
+abbrev pub forget_id : TimerId → State → State
+forget_id (Forget m) s = forget_name m s
+forget_id _ s = s
+
+-- room is made for the member of a claim, and a claim is applied once that is done
+abbrev pub forget_first_state : Option Timer → State → State
+forget_first_state None s = s
+forget_first_state (Some timer) s = forget_id timer.id s
+
+unfoldable pub make_room_state : Claim → State → State
+make_room_state c s = if needs_room_in c s.membership then forget_first_state (first_forget s.timers) s else s
+
+abbrev pub as_merged_state : Option (List ℕ) → Claim → State → Claim
+as_merged_state teller c s = merged s.membership.own.name (group.shown s.membership) teller c
+
+abbrev pub hear_one_state : Option (List ℕ) → Claim → State → State
+hear_one_state teller c s =
+    let roomy = make_room_state c s in
+    apply_state Group (as_merged_state teller c roomy) roomy
+
+abbrev pub hear_each_state : Option (List ℕ) → List Claim → State → State
+hear_each_state teller [] s = s
+hear_each_state teller (c ∷ cs) s = hear_each_state teller cs (hear_one_state teller c s)
+
+-- the names that are forgotten by that
+abbrev pub forgotten_id : TimerId → List (List ℕ)
+forgotten_id (Forget m) = m ∷ []
+forgotten_id _ = []
+
+abbrev pub forgotten_first : Option Timer → List (List ℕ)
+forgotten_first None = []
+forgotten_first (Some timer) = forgotten_id timer.id
+
+abbrev pub forgotten_for : Claim → State → List (List ℕ)
+forgotten_for c s = if needs_room_in c s.membership then forgotten_first (first_forget s.timers) else []
+
+abbrev pub forgotten_each : Option (List ℕ) → List Claim → State → List (List ℕ)
+forgotten_each teller [] s = []
+forgotten_each teller (c ∷ cs) s = forgotten_for c s ++ forgotten_each teller cs (hear_one_state teller c s)
+
+-- of some records, those of the members that claims are about
+abbrev pub records_about : List Claim → List Claim → List Claim
+records_about cs rows = filter (λ r. is_among name_cmp r.name (map name_of cs)) rows
 
 -- A round starts: the order chooses, unless this member left, and the timers of the round are set anew.
 abbrev pub choice_unless : Bool → ℕ → OrderValue → Option (List ℕ)
@@ -151,7 +224,7 @@ abbrev pub round_of_choice : ℕ → Option (List ℕ) → Option RoundValue
 round_of_choice k target = option_map (λ m. round_of k m []) target
 
 abbrev pub number_after : ℕ → Option (List ℕ) → ℕ
-number_after k target = if is_some target then k + 1 else k
+number_after k target = if is_some target then next_number k else k
 
 abbrev pub start_probe : Option (List ℕ) → State → State
 start_probe target s = record s {
@@ -223,6 +296,7 @@ fire_id Direct words s = ask_helpers words s
 fire_id (RelayNack k) words s = nack_relay k s
 fire_id (RelayEnd k) words s = close_relay k s
 fire_id RoundStart words s = start_round words s
+fire_id (Forget m) words s = forget_name m s
 fire_id Gossip words s = gossip_fired s
 
 unfoldable pub fire_state : Timer → List ℕ → State → State
@@ -273,8 +347,8 @@ with_relay nack end k timers =
 
 unfoldable pub open_relay : List ℕ → Asker → State → State
 open_relay target asker s = record s {
-  relays = relays_with s.relays (Opened (new_relay s.number target asker));
-  number = s.number + 1;
+  relays = relays_with (relays_with s.relays (Closed s.number)) (Opened (new_relay s.number target asker));
+  number = next_number s.number;
   timers = with_relay (nack_later s) (relay_later s) s.number s.timers;
 }
 

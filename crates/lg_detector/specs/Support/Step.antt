@@ -4,6 +4,7 @@ use Rattle.std.specs.Prelude.{Some, None, nat_lt, ◌==◌, if◌then◌else◌}
 use Rattle.lg_rules.specs.declared.claim.Claim.{Claim}
 use Rattle.lg_rules.specs.Meaning.View.{changed}
 use Rattle.lg_timers.specs.declared.timer.Timer.{Timer}
+use Rattle.lg_membership.specs.Meaning.Gossip.{version_sent}
 use Rattle.lg_membership.specs.Support.State as group
 use Rattle.lg_detector.specs.declared.event.Event.{Event}
 use Rattle.lg_detector.specs.declared.event.Event.TheVariants.{Open, Tick, Heard, Ask, Health, Pull, Leave}
@@ -12,7 +13,9 @@ use Rattle.lg_detector.specs.declared.reply.Outgoing.{Outgoing}
 use Rattle.lg_detector.specs.declared.reply.Reply.{Reply}
 use Rattle.lg_detector.specs.Meaning.Timing.{deadline_in, or_zero}
 use Rattle.lg_detector.specs.Meaning.Step.{log_of, is_open_event, opens_well, most_events}
-use Rattle.lg_detector.specs.Support.State.{State, state_of, come_state, end_event}
+use Rattle.lg_detector.specs.Meaning.Groups.{own_group}
+use Rattle.lg_detector.specs.Meaning.Hear.{claims_heard, table_teller}
+use Rattle.lg_detector.specs.Support.State.{State, state_of, come_state, end_event, forgotten_each, forgotten_first}
 use Rattle.lg_detector.specs.Support.Open.{open_with_state}
 use Rattle.lg_detector.specs.Support.Hear.{hear_claims_state, hear_state, sends_to_state}
 use Rattle.lg_detector.specs.Support.Tick.{due_state, tick_state, sends_at_state}
@@ -71,6 +74,13 @@ changed_by_state s (Tick now words) = changed (view_state s) (view_state (tick_s
 changed_by_state s (Leave now words) = changed (view_state s) (view_state (leave_state now s))
 changed_by_state s _ = []
 
+abbrev pub forgotten_by_state : State → Event → List (List ℕ)
+forgotten_by_state s (Heard now source packet) =
+    let teller = table_teller (version_sent s.membership.config) packet in
+    forgotten_each teller (claims_heard (own_group s.membership.config) packet) (come_state now s)
+forgotten_by_state s (Tick now words) = forgotten_first (due_state (come_state now s))
+forgotten_by_state s _ = []
+
 abbrev pub answer_by_state : State → Event → Option Answer
 answer_by_state s (Ask now name) = Some (status_state name s)
 answer_by_state s (Health now) = Some (health_state s)
@@ -87,6 +97,7 @@ reply_state s e =
       fired = fired_by_state s e;
       sends = record { items = sends_by_state s e };
       changed = record { items = changed_by_state s e };
+      forgotten = record { items = forgotten_by_state s e };
       answer = answer_by_state s e;
       ousted = behind.membership.own.ousted;
       next = or_zero (deadline_state behind);

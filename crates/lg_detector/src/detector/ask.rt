@@ -18,6 +18,7 @@ impl Detector {
         ensures fired { reply.new.fired ≡ None }
         ensures sends { reply.new.sends.items ≡ [] }
         ensures differing { reply.new.changed.items ≡ [] }
+        ensures forgotten { reply.new.forgotten.items ≡ [] }
         ensures answer { reply.new.answer ≡ Some (status_state name.now self.old) }
     {
         reply.say_nothing();
@@ -32,6 +33,7 @@ impl Detector {
         ensures fired { reply.new.fired ≡ None }
         ensures sends { reply.new.sends.items ≡ [] }
         ensures differing { reply.new.changed.items ≡ [] }
+        ensures forgotten { reply.new.forgotten.items ≡ [] }
         ensures answer { reply.new.answer ≡ Some (health_state self.old) }
     {
         reply.say_nothing();

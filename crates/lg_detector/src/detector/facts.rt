@@ -4,7 +4,7 @@
 //!
 //! Defined in: `specs/Meaning/Apply.antt`, `specs/Support/State.antt`, `specs/Meaning/Timing.antt`.
 //! Tested in: `lg_detector_tests/src/detector/hear.rt`, `lg_detector_tests/src/detector/ask.rt`.
-ghost use Rattle.std.specs.Prelude.{◌≡◌, ◌<◌, ◌≤◌, length, map};
+ghost use Rattle.std.specs.Prelude.{◌≡◌, ◌<◌, ◌≤◌, length, map, option_copied};
 ghost use Rattle.std.specs.Option.{option_to_list};
 ghost use Rattle.arrayvec.specs.ArrayVec.{array_vec_len};
 ghost use Rattle.lg_rules.specs.Meaning.Claim.{name_of};
@@ -17,32 +17,56 @@ ghost use Rattle.lg_membership.specs.declared.applied.Presence.TheVariants.{Join
 ghost use Rattle.lg_membership.specs.declared.origin.Origin.TheVariants.{Group};
 ghost use Rattle.lg_membership.specs.Support.State.{applied, with_found};
 ghost use Rattle.lg_detector.specs.Meaning.Timing.{start_timer};
-ghost use Rattle.lg_detector.specs.Support.State.{come_state, begin, marked_if, follow, reorder, apply_state};
+ghost use Rattle.lg_membership.specs.Support.Reached.{IsGood};
+ghost use Rattle.lg_detector.specs.Support.State.{come_state, begin, marked_if, follow, forget_after};
+ghost use Rattle.lg_detector.specs.Support.State.{reorder, apply_state};
 ghost use Rattle.lg_detector.specs.Support.State.{apply_all_state};
 ghost use Rattle.lg_detector.specs.Support.Step.{view_state};
 
-use super::{Detector, FIRST_NUMBER, MAX_EVENTS};
+use super::{Detector, MAX_EVENTS};
 use crate::reply::MAX_CHANGED;
 use arrayvec::ArrayVec;
 use lg_membership::{Deadline, Origin, Presence};
 use lg_probe::{Order, Relays};
-use lg_rules::{Claim, MAX_CLAIMS, MAX_OTHERS, Name, Record, put_row};
+use lg_rules::{Claim, MAX_CLAIMS, MAX_OTHERS, Name, Record, Status, put_row};
 use lg_timers::{MAX_TIMERS, Timer, TimerId, Timers};
 use lg_timing::{Config, Moment, Score};
 
-/// Makes the timer of a member's suspicion follow its deadline. The timer is set, or moved if an accuser brings the
-/// deadline nearer, or cancelled if the suspicion ended.
-fn follow(timers: &mut Timers, member: &Name, deadline: Deadline)
+/// Makes a timer follow its deadline. That of a member's suspicion is set, or moved if an accuser brings the deadline
+/// nearer, or cancelled if the suspicion ended. That which forgets a member is set or set anew, or cancelled.
+fn follow(timers: &mut Timers, id: TimerId, deadline: Deadline)
     requires { length timers.old < MAX_TIMERS }
-    ensures { timers.new ≡ follow member.now deadline timers.old }
+    ensures { timers.new ≡ follow id deadline timers.old }
 {
-    let id = TimerId::Suspicion(*member);
     match deadline {
         Deadline::Stays => {}
         Deadline::Ends => {
             timers.cancel(&id);
         }
         Deadline::Stands(deadline) => timers.reset(Timer { deadline, id }),
+    }
+}
+
+/// What becomes of the moment at which a member is forgotten once its record changed, if it did: it is set anew if the
+/// member is gone, and else there is none (this project's choice). This member itself is never forgotten.
+fn forget_after(
+    config: Option<&Config>,
+    me: &Name,
+    now: Moment,
+    changed: &Option<Record>,
+) -> Deadline
+    requires { IsGood (option_copied config) }
+    ensures { result ≡ forget_after (option_copied config.entry) me.now now changed.now }
+{
+    let (Some(config), Some(record)) = (config, changed) else {
+        return Deadline::Stays;
+    };
+    if !config.does_forget() || record.name.cmp(me).is_eq() {
+        return Deadline::Stays;
+    }
+    match record.status {
+        Status::Failed | Status::Left => { Deadline::Stands(now.milliseconds() + config.forget_ms) }
+        Status::Alive | Status::Suspect(_) => Deadline::Ends,
     }
 }
 
@@ -100,15 +124,15 @@ impl Detector {
     /// Counts an event, and moves the moment on to that of the event if it is later.
     pub(super) fn come(&mut self, now: Moment)
         requires { self.old.events < MAX_EVENTS }
-        ensures state { self.new ≡ come_state now self.old }
-        ensures numbered { self.new.number ≤ self.new.events }
+        ensures { self.new ≡ come_state now self.old }
     {
         let parts = &mut *self.parts;
         parts.events += 1;
         parts.moment = parts.moment.later(now);
     }
 
-    /// Opens the member: its score is 0, nobody is probed, and the first round starts at once.
+    /// Opens the member: its score is 0, nobody is probed, the numbers begin as the configuration says, and the first
+    /// round starts at once.
     pub(super) fn begin(&mut self, config: &Config)
         requires { IsChecked config.now }
         ensures { self.new ≡ begin config.now self.old }
@@ -122,7 +146,7 @@ impl Detector {
             id: TimerId::RoundStart,
         });
         parts.order = Order::new();
-        parts.number = FIRST_NUMBER;
+        parts.number = config.first as u32;
         parts.round = None;
         parts.gossip = None;
         parts.relays = Relays::new();
@@ -139,7 +163,18 @@ impl Detector {
         let now = parts.moment;
         let applied = parts.membership.apply(now, origin, claim);
         mark_if(&mut parts.score, applied.refuted);
-        follow(&mut parts.timers, &claim.name, applied.deadline);
+        follow(
+            &mut parts.timers,
+            TimerId::Suspicion(claim.name),
+            applied.deadline,
+        );
+        let until = forget_after(
+            parts.membership.config(),
+            &parts.membership.name(),
+            now,
+            &applied.changed,
+        );
+        follow(&mut parts.timers, TimerId::Forget(claim.name), until);
         reorder(&mut parts.order, &claim.name, applied.presence);
         applied.changed
     }
@@ -167,9 +202,13 @@ impl Detector {
         }
     }
 
-    /// Applies the claims of a packet, one after another. Overwrites `differing` with the records that
-    /// changed by them, in the order of names.
-    pub(super) fn say(&mut self, claims: &[Claim], differing: &mut ArrayVec<Record, MAX_CHANGED>)
+    /// Applies the claims of a packet, one after another, each of which has room. Overwrites `differing` with the
+    /// records that changed by them, in the order of names.
+    pub(super) fn say_each(
+        &mut self,
+        claims: &[Claim],
+        differing: &mut ArrayVec<Record, MAX_CHANGED>,
+    )
         requires { length claims.now ≤ MAX_CLAIMS }
         ensures state { self.new ≡ apply_all_state Group claims.now self.old }
         ensures differing { differing.new.items

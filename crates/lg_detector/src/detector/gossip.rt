@@ -5,7 +5,7 @@
 //! 0. The score scales none of this.
 //!
 //! Defined in: `specs/Meaning/Timing.antt`, `specs/Meaning/Tick.antt`, `specs/Support/State.antt`.
-//! Tested in: `lg_detector_tests/src/detector/gossiping.rt`.
+//! Tested in: `lg_news_tests/src/gossiping.rt`.
 ghost use Rattle.std.specs.Prelude.{◌≡◌, ◌<◌, ◌≤◌, ◌+◌, [], length, option_copied, IfSome};
 ghost use Rattle.lg_timers.specs.declared.timer.TimerId.TheVariants.{Gossip};
 ghost use Rattle.lg_membership.specs.Support.Reached.{IsGood};

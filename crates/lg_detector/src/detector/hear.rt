@@ -1,5 +1,6 @@
 //! The event Heard: the claims of a packet are applied in their order, and then its body is handled. So an Ack or a
-//! relayed Ping carries what the claims have just put into the queue.
+//! relayed Ping carries what the claims have just put into the queue. Where a claim lacks room for its member, a member
+//! that is gone is forgotten first: `forget.rt`.
 //!
 //! - A Ping or a PingReq for this member gets an Ack with its number, sent to where it came from. A Ping for another
 //!   member does nothing.
@@ -10,9 +11,12 @@
 //!   relay is closed, and its asker gets an Ack with the asker's number.
 //! - A Nack counts for the probe that runs, once for each helper that was asked.
 //! - An Ack and a Nack name their receiver in version 3. One for another receiver does nothing, but its claims count.
-//! - A Pull is answered by a Page, and a full Page by the next Pull: `joining.rt`.
+//! - A Pull is answered by a Page, and a full Page by the next Pull: `joining.rt`. The claims of a Page are merged
+//!   gently:
+//!   `merge.rt`.
 //! - Nothing answers a Gossip: only its claims count.
-//! - Nothing is heard of a packet that names a group, since this member has none (this project's choice).
+//! - A packet of another group than this member's own is dropped: it only moves the moment on (this project's choice).
+//!   `group.rt` says which these are.
 //!
 //! Defined in: `specs/Meaning/Hear.antt`, `specs/Support/Hear.antt`, `specs/Meaning/Joining.antt`.
 //! Tested in: `lg_detector_tests/src/detector/hear.rt`, `lg_detector_tests/src/detector/acks.rt`.
@@ -23,21 +27,24 @@ ghost use Rattle.lg_rules.specs.Meaning.Rows.{name_cmp, is_same};
 ghost use Rattle.lg_rules.specs.Meaning.View.{changed};
 ghost use Rattle.lg_packet.specs.declared.packet.Body.TheVariants.{Ping, PingReq};
 ghost use Rattle.lg_probe.specs.Meaning.Relays.{ended_asker};
-ghost use Rattle.lg_detector.specs.Meaning.Hear.{asker_from, claims_heard, has_no_group, is_for, is_meant};
+ghost use Rattle.lg_membership.specs.Meaning.Gossip.{version_sent};
+ghost use Rattle.lg_detector.specs.Meaning.Groups.{own_group, is_of_group};
+ghost use Rattle.lg_detector.specs.Meaning.Hear.{asker_from, claims_heard, is_for, is_meant, table_teller};
 ghost use Rattle.lg_detector.specs.Meaning.Hear.{pass_on};
 ghost use Rattle.lg_detector.specs.Support.Hear.{answer_state, hear_state, hear_claims_state, note_state};
 ghost use Rattle.lg_detector.specs.Support.Hear.{respond_state};
 ghost use Rattle.lg_detector.specs.Support.Hear.{response_state, sends_of_state, sends_to_state};
-ghost use Rattle.lg_detector.specs.Support.State.{hear_ack, hear_nack};
+ghost use Rattle.lg_detector.specs.Support.State.{come_state, forgotten_each, hear_ack, hear_nack};
 ghost use Rattle.lg_detector.specs.Support.Step.{view_state};
 
+use super::group::{claims_heard, is_of_group};
 use super::{Detector, MAX_EVENTS, relay, round};
 use crate::message::Message;
 use crate::reply::Reply;
 use crate::sends::Sends;
 use lg_packet::{Body, Packet};
 use lg_probe::{Asker, MAX_RELAYS};
-use lg_rules::{Addr, Claim, MAX_CLAIMS, Name};
+use lg_rules::{Addr, Name};
 use lg_timing::Moment;
 
 /// Who asks by a packet: its sender, where it came from, and the number in it.
@@ -51,17 +58,6 @@ fn asker_from(sender: &Name, source: Addr, number: u32) -> Asker
     }
 }
 
-/// The claims of a packet that are heard: none of one that names a group.
-fn claims_heard(packet: &Packet) -> &[Claim]
-    ensures claims { result.now ≡ claims_heard packet.now }
-    ensures few { length result.now ≤ MAX_CLAIMS }
-{
-    match packet.group {
-        None => packet.claims.as_slice(),
-        Some(_) => &[],
-    }
-}
-
 impl Detector {
     /// Hears a packet from a source: applies its claims, and handles its body.
     pub(super) fn hear(&mut self, now: Moment, source: Addr, packet: &Packet, reply: &mut Reply)
@@ -72,23 +68,29 @@ impl Detector {
             ≡ sends_to_state source packet.now (hear_claims_state now packet.now self.old) }
         ensures differing { reply.new.changed.items
             ≡ changed (view_state self.old) (view_state (hear_claims_state now packet.now self.old)) }
+        ensures forgotten { reply.new.forgotten.items
+            ≡ forgotten_each
+            (table_teller (version_sent self.old.membership.config) packet.now)
+            (claims_heard (own_group self.old.membership.config) packet.now)
+            (come_state now self.old) }
         ensures answer { reply.new.answer ≡ None }
     {
         // The other parts are overwritten, not cleared first.
         reply.fired = None;
         reply.answer = None;
         self.come(now);
-        self.say(claims_heard(packet), &mut reply.changed);
+        let teller = self.table_teller(packet);
+        let claims = claims_heard(&self.group(), packet);
+        self.say(&teller, claims, &mut reply.changed, &mut reply.forgotten);
         self.answer(source, packet, &mut reply.sends);
     }
 
     /// Handles the body of a packet, if this member is to hear it.
     fn answer(&mut self, source: Addr, packet: &Packet, sends: &mut Sends)
-        requires { self.old.number ≤ self.old.events }
         ensures state { self.new ≡ answer_state source packet.now self.old }
         ensures sends { sends.new.items ≡ sends_to_state source packet.now self.old }
     {
-        if packet.group.is_none() && self.is_meant(&packet.body) {
+        if is_of_group(&self.group(), packet) && self.is_meant(&packet.body) {
             self.answer_body(source, packet, sends);
         } else {
             sends.clear();
@@ -123,7 +125,6 @@ impl Detector {
     /// Gossip. For any other body, notes what it means for the probe that runs and for the relays, and sends the
     /// packet that responds to it.
     fn answer_body(&mut self, source: Addr, packet: &Packet, sends: &mut Sends)
-        requires { self.old.number ≤ self.old.events }
         ensures state { self.new ≡ respond_state source packet.now.sender packet.now.body self.old }
         ensures sends { sends.new.items ≡ sends_of_state source packet.now packet.now.body self.old }
     {
@@ -143,7 +144,6 @@ impl Detector {
     /// Notes what a body means for the probe that runs and for the relays. Returns the packet that responds to it, if
     /// there is one.
     fn respond(&mut self, source: Addr, sender: &Name, body: &Body) -> Option<Message>
-        requires { self.old.number ≤ self.old.events }
         ensures state { self.new ≡ note_state source sender.now body.now self.old }
         ensures message { option_to_list result ≡ response_state source sender.now body.now self.old }
     {
@@ -166,7 +166,7 @@ impl Detector {
     }
 
     /// Whether a name is this member's.
-    fn is_own(&self, name: &Name) -> bool
+    pub(super) fn is_own(&self, name: &Name) -> bool
         ensures { result ≡ is_same name_cmp name.now self.now.membership.own.name }
     {
         name.cmp(&self.name()).is_eq()
@@ -187,7 +187,6 @@ impl Detector {
     /// Acks a PingReq for this member. One for another member is relayed, or refused if as many relays are open as
     /// are allowed.
     fn hear_request(&mut self, asker: &Asker, target: &Name, addr: Addr) -> Option<Message>
-        requires { self.old.number ≤ self.old.events }
         ensures state { let asker = asker.now in self.new
             ≡ note_state asker.addr asker.name (PingReq asker.number target.now addr) self.old }
         ensures message { let asker = asker.now in option_to_list result

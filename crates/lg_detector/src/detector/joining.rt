@@ -26,6 +26,7 @@ impl Detector {
         ensures fired { reply.new.fired ≡ None }
         ensures sends { reply.new.sends.items ≡ pulls_state now peer self.old }
         ensures differing { reply.new.changed.items ≡ [] }
+        ensures forgotten { reply.new.forgotten.items ≡ [] }
         ensures answer { reply.new.answer ≡ None }
     {
         reply.say_nothing();
@@ -73,7 +74,7 @@ impl Detector {
     {
         place.to = to;
         place.packet.version = self.version();
-        place.packet.group = None;
+        place.packet.group = self.group();
         place.packet.sender = self.name();
         place.packet.body = Body::Page;
         self.parts
@@ -89,7 +90,7 @@ impl Detector {
         let version = self.version();
         place.to = to;
         place.packet.version = version;
-        place.packet.group = None;
+        place.packet.group = self.group();
         place.packet.sender = self.name();
         place.packet.body = body;
         let claims = &mut place.packet.claims;

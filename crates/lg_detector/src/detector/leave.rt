@@ -7,8 +7,8 @@
 //! gossips its news.
 //!
 //! Defined in: `specs/Meaning/Leave.antt`, `specs/Support/Leave.antt`, `specs/Meaning/Probing.antt`.
-//! Tested in: `lg_detector_tests/src/detector/leaving.rt`.
-ghost use Rattle.std.specs.Prelude.{◌≡◌, ◌<◌, ◌≤◌, length, None};
+//! Tested in: `lg_news_tests/src/leaving.rt`.
+ghost use Rattle.std.specs.Prelude.{◌≡◌, ◌<◌, ◌≤◌, [], length, None};
 ghost use Rattle.lg_rules.specs.Meaning.View.{changed};
 ghost use Rattle.lg_membership.specs.Support.State.{changed_by_leave};
 ghost use Rattle.lg_detector.specs.Meaning.Leave.{leave_body};
@@ -58,6 +58,7 @@ impl Detector {
         ensures sends { reply.new.sends.items ≡ leave_sends_state now words.now self.old }
         ensures differing { reply.new.changed.items
             ≡ changed (view_state self.old) (view_state (leave_state now self.old)) }
+        ensures forgotten { reply.new.forgotten.items ≡ [] }
         ensures answer { reply.new.answer ≡ None }
     {
         reply.say_nothing();

@@ -37,6 +37,7 @@ impl Detector {
         ensures fired { reply.new.fired ≡ None }
         ensures sends { reply.new.sends.items ≡ [] }
         ensures differing { reply.new.changed.items ≡ [] }
+        ensures forgotten { reply.new.forgotten.items ≡ [] }
         ensures answer { reply.new.answer ≡ None }
     {
         reply.say_nothing();

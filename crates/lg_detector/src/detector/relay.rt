@@ -22,6 +22,7 @@ ghost use Rattle.lg_detector.specs.Support.State.{close_relay, open_relay, with_
 ghost use Rattle.lg_detector.specs.Support.State.{nack_relay};
 
 use super::Detector;
+use super::numbers::next_number;
 use crate::message::Message;
 use lg_packet::Body;
 use lg_probe::{Asker, MAX_RELAYS, Relays};
@@ -142,11 +143,11 @@ fn nack_to(asker: &Option<Asker>) -> Option<Message>
 }
 
 impl Detector {
-    /// Opens a relay to a target, for an asker.
+    /// Opens a relay to a target, for an asker. It takes the next sequence number. An earlier relay that still has that
+    /// number is closed, since the numbers begin anew behind the greatest.
     #[tactic(auto, unfolding(crate::specs::Support::State::open_relay))]
     pub(super) fn open_relay(&mut self, target: &Name, asker: &Asker)
-        requires numbered { self.old.number ≤ self.old.events }
-        requires room { length self.old.relays < MAX_RELAYS }
+        requires { length self.old.relays < MAX_RELAYS }
         ensures { self.new ≡ open_relay target.now asker.now self.old }
     {
         let parts = &mut *self.parts;
@@ -154,9 +155,10 @@ impl Detector {
         let config = parts.membership.config();
         let nack = now + nack_time(config);
         let end = now + relay_time(config);
+        parts.relays.close(parts.number);
         parts.relays.add(parts.number, target, *asker);
         set_relay(&mut parts.timers, nack, end, parts.number);
-        parts.number += 1;
+        parts.number = next_number(parts.number);
     }
 
     /// Returns the Nack for the asker of a relay, since no Ack has come so far. The relay stays open.

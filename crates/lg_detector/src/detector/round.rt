@@ -30,7 +30,8 @@ ghost use Rattle.lg_detector.specs.Support.Send.{packets_state, send_all_state};
 ghost use Rattle.lg_detector.specs.Support.Step.{view_state};
 ghost use Rattle.lg_detector.specs.Support.Tick.{messages_state};
 
-use super::{Detector, MAX_EVENTS};
+use super::Detector;
+use super::numbers::next_number;
 use crate::message::Message;
 use crate::reply::MAX_SENDS;
 use crate::sends::{Sends, make_slots};
@@ -128,11 +129,10 @@ fn new_round(number: u32, chosen: &Option<Name>) -> Option<Round>
 
 /// The next sequence number, after a round chose a member or nobody.
 fn number_after(number: u32, chosen: &Option<Name>) -> u32
-    requires { number ≤ MAX_EVENTS }
     ensures { result ≡ number_after number chosen.now }
 {
     match chosen {
-        Some(_) => number + 1,
+        Some(_) => next_number(number),
         None => number,
     }
 }
@@ -264,7 +264,6 @@ impl Detector {
 
     /// Starts a round. Returns the Ping of the member that it chooses.
     pub(super) fn start_round(&mut self, words: &[u32; 8]) -> Option<Message>
-        requires { self.old.number ≤ self.old.events }
         ensures state { self.new ≡ start_round words.now self.old }
         ensures message { option_to_list result
             ≡ ping_to self.old.number (view_state self.old) (chosen_state words.now self.old) }
@@ -276,7 +275,6 @@ impl Detector {
 
     /// Lets the order choose, unless this member has left, and sets the timers of the round anew.
     fn choose(&mut self, words: &[u32; 8]) -> Option<Name>
-        requires { self.old.number ≤ self.old.events }
         ensures state { self.new ≡ start_round words.now self.old }
         ensures chosen { result ≡ chosen_state words.now self.old }
     {

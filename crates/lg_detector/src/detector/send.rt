@@ -2,10 +2,11 @@
 //! Each is written over the packet that the reply had in the same slot before, since a packet is large. A Ping for a
 //! member whose record is Suspect begins with that record (Lifeguard's buddy system). A Nack takes no claims (this
 //! project's choice). Pulls and Pages are in `joining.rt`. Each packet has the version of this member's configuration,
-//! also one that answers a packet of another version, and no group (this project's choice).
+//! also one that answers a packet of another version, and its group, if it has one (this
+//! project's choice).
 //!
 //! Defined in: `specs/Meaning/Send.antt`, `specs/Support/Send.antt`.
-//! Tested in: `lg_detector_tests/src/detector/sending.rt`.
+//! Tested in: `lg_news_tests/src/sending.rt`.
 ghost use Rattle.std.specs.Prelude.{◌≡◌, []};
 ghost use Rattle.std.specs.Option.{option_to_list};
 ghost use Rattle.lg_membership.specs.Meaning.Gossip.{version_sent};
@@ -85,7 +86,7 @@ impl Detector {
         let version = self.version();
         place.to = message.to;
         place.packet.version = version;
-        place.packet.group = None;
+        place.packet.group = self.group();
         place.packet.sender = self.name();
         place.packet.body = message.body;
         keep_told(version, &mut place.packet.body);

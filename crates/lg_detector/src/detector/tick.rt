@@ -3,35 +3,39 @@
 //! nothing fires.
 //!
 //! The first is the one with the least deadline. Of those with the same deadline, the end of a round comes before a
-//! suspicion, then Direct, the Nack of a relay, its end, the start of a round, and a gossip. Within one kind, the
-//! lesser name or number comes first. Only one fires, so that the packets always fit in the reply; the next tick fires
-//! the next one. What a timer sets counts from the detector's moment, however long the timer was due.
+//! suspicion, then Direct, the Nack of a relay, its end, the start of a round, forgetting a member, and a gossip.
+//! Within one kind, the lesser name or number comes first. Only one fires, so that the packets always fit in the reply;
+//! the next tick fires the next one. What a timer sets counts from the detector's moment, however long the timer was
+//! due.
 //!
 //! - A round starts, its helpers are asked, or it ends: `round.rt`.
 //! - A suspicion runs out: its member has failed, at the incarnation and the address of its record.
 //! - A relay sends its Nack, or is closed: `relay.rt`.
+//! - A member that is gone is forgotten: `forget.rt`.
 //! - News is gossiped: `gossip.rt`.
 //!
 //! A claim that the timer makes is applied like one of a packet, so it ends or raises a suspicion, sets its timer,
-//! and is queued. The reply has the timer that fired, the packets that are sent and the records that changed. Like
-//! every reply, it also says whether this member is ousted, and has the least deadline after the event.
+//! and is queued. The reply has the timer that fired, the packets that are sent, the records that changed and the name
+//! that was forgotten. Like every reply, it also says whether this member is ousted, and has the least deadline after
+//! the event.
 //!
 //! Defined in: `specs/Meaning/Tick.antt`, `specs/Support/Tick.antt`, `specs/Meaning/Timing.antt`.
 //! Tested in: `lg_detector_tests/src/detector/tick.rt`.
-ghost use Rattle.std.specs.Prelude.{◌≡◌, ◌<◌, ◌≤◌, None, Some};
+ghost use Rattle.std.specs.Prelude.{◌≡◌, ◌<◌, ◌++◌, None, Some};
 ghost use Rattle.std.specs.Option.{option_to_list};
+ghost use Rattle.arrayvec.specs.ArrayVec.{array_vec_len};
 ghost use Rattle.lg_rules.specs.Meaning.View.{changed};
 ghost use Rattle.lg_detector.specs.Meaning.Tick.{failed_of};
-ghost use Rattle.lg_detector.specs.Support.State.{come_state};
+ghost use Rattle.lg_detector.specs.Support.State.{come_state, forgotten_first, forgotten_id};
 ghost use Rattle.lg_detector.specs.Support.Step.{view_state};
 ghost use Rattle.lg_detector.specs.Support.Tick.{due_state, expire_sends_state, expire_state, sends_at_state};
 ghost use Rattle.lg_detector.specs.Support.Tick.{tick_state};
 
 use super::{Detector, MAX_EVENTS};
-use crate::reply::{MAX_CHANGED, Reply};
+use crate::reply::{MAX_CHANGED, MAX_FORGOTTEN, Reply};
 use crate::sends::Sends;
 use arrayvec::ArrayVec;
-use lg_rules::{Claim, Record, Status};
+use lg_rules::{Claim, Name, Record, Status};
 use lg_timers::{Timer, TimerId};
 use lg_timing::Moment;
 
@@ -48,6 +52,16 @@ fn failed_claim(current: &Option<Record>) -> Option<Claim>
     })
 }
 
+/// Appends the name that a timer forgets, if it forgets one.
+pub(super) fn put_forgotten(id: &TimerId, forgotten: &mut ArrayVec<Name, MAX_FORGOTTEN>)
+    requires { array_vec_len forgotten.old < MAX_FORGOTTEN }
+    ensures { forgotten.new.items ≡ forgotten.old.items ++ forgotten_id id.now }
+{
+    if let TimerId::Forget(name) = id {
+        forgotten.push(*name);
+    }
+}
+
 impl Detector {
     /// Time has passed: fires the first of the timers that are due.
     pub(super) fn tick(&mut self, now: Moment, words: &[u32; 8], reply: &mut Reply)
@@ -57,15 +71,20 @@ impl Detector {
         ensures sends { reply.new.sends.items ≡ sends_at_state now words.now self.old }
         ensures differing { reply.new.changed.items
             ≡ changed (view_state self.old) (view_state (tick_state now words.now self.old)) }
+        ensures forgotten { reply.new.forgotten.items ≡ forgotten_first (due_state (come_state now self.old)) }
         ensures answer { reply.new.answer ≡ None }
     {
         // The proof needs what the invariant says of the state at the start.
         let _ = &self.parts;
         reply.answer = None;
+        reply.forgotten.clear();
         self.come(now);
         reply.fired = self.due();
         match &reply.fired {
-            Some(timer) => self.fire(timer, words, &mut reply.changed, &mut reply.sends),
+            Some(timer) => {
+                self.fire(timer, words, &mut reply.changed, &mut reply.sends);
+                put_forgotten(&timer.id, &mut reply.forgotten);
+            }
             None => {
                 reply.changed.clear();
                 reply.sends.clear();
@@ -90,7 +109,6 @@ impl Detector {
         differing: &mut ArrayVec<Record, MAX_CHANGED>,
         sends: &mut Sends,
     )
-        requires { self.old.number ≤ self.old.events }
         ensures state { self.new ≡ expire_state (Some timer.now) words.now self.old }
         ensures sends { sends.new.items ≡ expire_sends_state (Some timer.now) words.now self.old }
         ensures differing { differing.new.items
@@ -128,6 +146,11 @@ impl Detector {
                 let ping = self.start_round(words);
                 differing.clear();
                 self.send_one(&ping, sends);
+            }
+            TimerId::Forget(name) => {
+                self.forget(name);
+                differing.clear();
+                sends.clear();
             }
             TimerId::Gossip => {
                 differing.clear();

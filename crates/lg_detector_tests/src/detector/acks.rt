@@ -1,13 +1,14 @@
 //! Acks and Nacks of a round. b is opened at 0.
-use super::happening::Happens::{Ack, First, Health, Nack, Ping};
-use super::playing::Due::{Direct, RoundEnd};
-use super::playing::Step::{self, AnswersHealth, Changed, Fired, Next, Pings, Sends, Takes};
-use super::playing::{Case, opened, play, play_on};
 use super::probing::{ASKED, FOUR};
-use crate::says::Said::{Alive, Suspect};
+use crate::playing::{opened, play, play_on};
+use lg_detector_testing::DetectorCase;
+use lg_detector_testing::Happens::{Ack, First, Health, Nack, Ping};
+use lg_detector_testing::Step::{self, AnswersHealth, Changed, Fired, Next, Pings, Sends, Takes};
+use lg_testing::Due::{Direct, RoundEnd};
+use lg_testing::says::Said::{Alive, Suspect};
 
 /// What Acks and Nacks do after d, e and f were asked to help: the score after the round.
-const COUNTED: &[Case] = &[
+const COUNTED: &[DetectorCase] = &[
     (
         "nothing",
         &[
@@ -124,7 +125,7 @@ fn counts_acks_and_nacks(rt: HostRuntime) {
 }
 
 /// An Ack or a Nack that came before its sender was asked doesn't count.
-const EARLY: &[Case] = &[
+const EARLY: &[DetectorCase] = &[
     (
         "an early Ack",
         &[
@@ -160,7 +161,7 @@ const EARLY: &[Case] = &[
 
 /// An Ack that counts cancels the asking of helpers. It ends neither this round nor the next one. An Ack that comes
 /// after its round does nothing.
-const IN_TIME_AND_LATE: &[Case] = &[
+const IN_TIME_AND_LATE: &[DetectorCase] = &[
     (
         "in time",
         &[
@@ -191,7 +192,7 @@ const IN_TIME_AND_LATE: &[Case] = &[
 ];
 
 /// Two probes failed. Two Acks come for the third, and only the first of them marks the score.
-const TWO_ACKS: Case = (
+const TWO_ACKS: DetectorCase = (
     "two Acks",
     &[
         Takes(Ping(0, 1, "z", &[Alive("c", 0)])),
@@ -213,7 +214,7 @@ const TWO_ACKS: Case = (
 );
 
 /// Each case of single Acks and Nacks.
-const PLAYED: &[&[Case]] = &[EARLY, IN_TIME_AND_LATE, &[TWO_ACKS]];
+const PLAYED: &[&[DetectorCase]] = &[EARLY, IN_TIME_AND_LATE, &[TWO_ACKS]];
 
 #[test]
 fn hears_acks_and_nacks(rt: HostRuntime) {

@@ -1,21 +1,22 @@
 //! Questions: for the record of a name, and for the health.
-use super::happening::Happens::{Ask, Health, Opens, Ping, Tick};
-use super::happening::Setting::MaxScore;
-use super::playing::Due::Nothing;
-use super::playing::Step::{
+use crate::playing::{blank, play, play_blank, play_on};
+use arrayvec::ArrayVec;
+use lg_detector::{Detector, MAX_MEMBERS};
+use lg_detector_testing::DetectorCase;
+use lg_detector_testing::Happens::{Ask, Health, Opens, Ping, Tick};
+use lg_detector_testing::Setting::MaxScore;
+use lg_detector_testing::Step::{
     self, Acks, Answers, AnswersHealth, AnswersNothing, Changed, Events, Fired, Known, Moment,
     Next, Ousted, Refuses, Sends, Table, Takes,
 };
-use super::playing::{Case, blank, play, play_blank, play_on};
-use crate::says::Said::{self, Alive, Failed, Suspect};
-use crate::says::are_said;
-use arrayvec::ArrayVec;
-use lg_detector::{Detector, MAX_MEMBERS};
 use lg_rules::Record;
+use lg_testing::Due::Nothing;
+use lg_testing::says::Said::{self, Alive, Failed, Suspect};
+use lg_testing::says::are_said;
 use std::alloc::Global;
 
 /// Whose record is asked for, and what it is: that of b itself, of c, of d, of the accuser a, and of z.
-const RECORDS: Case = (
+const RECORDS: DetectorCase = (
     "five questions",
     &[
         Takes(Ping(10, 7, "b", &[Alive("c", 0), Suspect("d", 2, "a")])),
@@ -89,7 +90,7 @@ fn shows_the_table(rt: HostRuntime) {
 }
 
 /// If two accusations have the same incarnation, only the first is refuted.
-const REFUTED_ONCE: Case = (
+const REFUTED_ONCE: DetectorCase = (
     "two accusations of one number",
     &[
         Refuses(Health(0)),
@@ -111,7 +112,7 @@ fn marks_a_refutation_once(rt: HostRuntime) {
 
 /// Claims in one packet, and the score, b's incarnation and the number of members after it. They show what marks the
 /// score, and what doesn't.
-const MARKED: &[Case] = &[
+const MARKED: &[DetectorCase] = &[
     (
         "two refutations",
         &[
@@ -179,7 +180,7 @@ const MARKED: &[Case] = &[
 ];
 
 /// Who counts as a member.
-const COUNTED: &[Case] = &[
+const COUNTED: &[DetectorCase] = &[
     (
         "itself",
         &[
@@ -266,7 +267,7 @@ fn holds_the_greatest_score(rt: HostRuntime) {
 }
 
 /// Two timers are due. Asking fires neither.
-const TWO_DUE: Case = (
+const TWO_DUE: DetectorCase = (
     "two timers are due",
     &[
         Takes(Ping(0, 1, "c", &[Suspect("c", 0, "a")])),
@@ -283,7 +284,7 @@ const TWO_DUE: Case = (
 );
 
 /// The greatest moment counts, also when an event comes with an earlier one.
-const MOMENTS: Case = (
+const MOMENTS: DetectorCase = (
     "a moment that goes back",
     &[
         Moment(0),
@@ -297,7 +298,7 @@ const MOMENTS: Case = (
 );
 
 /// Each case of questions to a b that is open.
-const PLAYED: &[&[Case]] = &[&[RECORDS], MARKED, COUNTED, &[TWO_DUE], &[MOMENTS]];
+const PLAYED: &[&[DetectorCase]] = &[&[RECORDS], MARKED, COUNTED, &[TWO_DUE], &[MOMENTS]];
 
 #[test]
 fn answers(rt: HostRuntime) {

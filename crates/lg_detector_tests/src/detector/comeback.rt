@@ -1,10 +1,10 @@
 //! A member that is suspected, fails, comes back, is suspected and fails again. What b knows of it is the same, in
 //! whichever order the claims come.
-use super::happening::Happens::{Health, Tick};
-use super::playing::Step::{self, AnswersHealth, Hears, Next, Table, Takes};
-use super::playing::{opened, play_on};
-use crate::says::Said::{self, Alive, Failed, Suspect};
+use crate::playing::{opened, play_on};
 use lg_detector::Detector;
+use lg_detector_testing::Happens::{Health, Tick};
+use lg_detector_testing::Step::{self, AnswersHealth, Hears, Next, Table, Takes};
+use lg_testing::says::Said::{self, Alive, Failed, Suspect};
 use std::process::Abort;
 
 /// What is said of c. Each claim overrides those before it.

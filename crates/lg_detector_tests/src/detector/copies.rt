@@ -1,11 +1,10 @@
 //! Copies, and events that are absorbed.
-use super::comparing::{is_same_reply, is_same_state};
-use super::happening::Happens::{self, Ask, From, Health, Opens, Ping, Pull, Tick};
-use super::happening::Says::{Ack, PullFirst};
-use super::happening::event_of;
-use super::playing::{blank, takes};
-use crate::says::Said::{Alive, Suspect};
+use crate::playing::blank;
 use lg_detector::Reply;
+use lg_detector_testing::Happens::{self, Ask, From, Health, Opens, Ping, Pull, Tick};
+use lg_detector_testing::{event_of, is_same_reply, is_same_state, takes};
+use lg_testing::bodies::Says::{Ack, PullFirst};
+use lg_testing::says::Said::{Alive, Suspect};
 
 /// An opening, claims, Acks, Pulls and questions. The ticks fire the start of a round, the asking of helpers, and the
 /// end of the round.

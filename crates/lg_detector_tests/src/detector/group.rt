@@ -1,9 +1,9 @@
 //! A simulated group: its members, each with its detector, and the packets on their way. A packet takes a millisecond.
 //! In each millisecond the packets arrive first, in the order in which they were sent. Then each member ticks that has
 //! a timer due. The random words come from a generator of the group's own, so a group always goes on the same way.
-use super::playing::{table_of, takes};
 use super::tables::{Known, Number, Runs, are_runs, name_of, number_at, port_of, wire_of};
 use lg_detector::{Detector, Event, NoMemory, Outgoing, Reply};
+use lg_detector_testing::{table_of, takes};
 use lg_rules::Addr;
 use lg_testing::{at, local};
 use lg_timing::{Config, Seed};

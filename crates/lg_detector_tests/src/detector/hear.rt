@@ -1,16 +1,17 @@
 //! Packets that are heard: what their claims change, and the Acks to them.
-use super::happening::Happens::{From, Health, Opens, Ping, Tick};
-use super::happening::Says::Ack;
-use super::playing::Due::Suspicion;
-use super::playing::Step::{
+use crate::playing::{opened, play, play_blank, play_on};
+use lg_detector_testing::DetectorCase;
+use lg_detector_testing::Happens::{From, Health, Opens, Ping, Tick};
+use lg_detector_testing::Step::{
     self, Acks, AnswersHealth, Changed, Changes, Events, Fired, Hears, Known, Next, Ousted, Sends,
     Table, Takes, Tells,
 };
-use super::playing::{Case, opened, play, play_blank, play_on};
-use crate::says::Said::{Accused, Alive, Failed, Left, Suspect, SuspectAt};
+use lg_testing::Due::Suspicion;
+use lg_testing::bodies::Says::Ack;
+use lg_testing::says::Said::{Accused, Alive, Failed, Left, Suspect, SuspectAt};
 
 /// A Ping for another isn't acked, and neither is an Ack. What both said is gossiped.
-const GOSSIP: &[Case] = &[
+const GOSSIP: &[DetectorCase] = &[
     (
         "a Ping for another",
         &[
@@ -35,7 +36,7 @@ const GOSSIP: &[Case] = &[
 ];
 
 /// Pings leave the deadline as it is, whatever their moments.
-const OUT_OF_ORDER: Case = (
+const OUT_OF_ORDER: DetectorCase = (
     "moments out of order",
     &[
         Takes(Opens(5000, &[])),
@@ -61,7 +62,7 @@ fn counts_from_the_greatest_moment(rt: HostRuntime) {
 }
 
 /// What a packet changes is listed in the order of names, each member once.
-const SIX_CLAIMS: Case = (
+const SIX_CLAIMS: DetectorCase = (
     "six claims",
     &[
         Takes(Ping(0, 1, "c", &[Alive("d", 1), Alive("f", 0)])),
@@ -90,7 +91,7 @@ const SIX_CLAIMS: Case = (
 );
 
 /// If two accusations have the same incarnation, only the first is refuted. A member that is ousted stays ousted.
-const REFUTED: &[Case] = &[
+const REFUTED: &[DetectorCase] = &[
     (
         "two accusations of one number",
         &[
@@ -115,7 +116,7 @@ const REFUTED: &[Case] = &[
 
 /// A claim about b, whose incarnation is 0, in a Ping. Then b's record, what of it changes and is sent, and whether b
 /// is ousted. The first nine claims raise b's incarnation, and the others don't.
-const OF_ITSELF: &[Case] = &[
+const OF_ITSELF: &[DetectorCase] = &[
     (
         "alive",
         &[
@@ -296,7 +297,7 @@ fn a_flood_of_accusers(rt: HostRuntime) {
 
 /// An accusation is sent as it was heard. The record stays as the first one made it, and fails at the record's
 /// address.
-const TWO_ADDRESSES: Case = (
+const TWO_ADDRESSES: DetectorCase = (
     "accused at two addresses",
     &[
         OTHERS,
@@ -313,7 +314,7 @@ const TWO_ADDRESSES: Case = (
 );
 
 /// Each case of packets on a b that is open.
-const PLAYED: &[&[Case]] = &[GOSSIP, &[SIX_CLAIMS], REFUTED, OF_ITSELF, &[TWO_ADDRESSES]];
+const PLAYED: &[&[DetectorCase]] = &[GOSSIP, &[SIX_CLAIMS], REFUTED, OF_ITSELF, &[TWO_ADDRESSES]];
 
 #[test]
 fn hears_packets(rt: HostRuntime) {

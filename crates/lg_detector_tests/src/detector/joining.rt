@@ -1,18 +1,18 @@
 //! Joining: the Pull that an event sends, the Page that answers a Pull, and the Pull that answers a Page of six.
-use super::happening::Happens::{From, In, Opens, Ping, Pull};
-use super::happening::Says::{Gossip, Page, PullAfter, PullFirst};
-use super::happening::Setting::Wire;
-use super::playing::Due::Nothing;
-use super::playing::Step::{
+use crate::playing::{play, play_blank, resume_each};
+use lg_detector_testing::DetectorCase;
+use lg_detector_testing::Happens::{From, In, Opens, Ping, Pull};
+use lg_detector_testing::Setting::Wire;
+use lg_detector_testing::Step::{
     self, Acks, Changed, Fired, Hears, Known, Next, Sends, Sent, SentIn, Takes,
 };
-use super::playing::{Case, play, play_blank};
-use super::resuming::resume_each;
-use crate::says::Said::{self, Alive, Failed, Numbered, Suspect};
 use lg_packet::Version::{One, Three, Two};
+use lg_testing::Due::Nothing;
+use lg_testing::bodies::Says::{Gossip, Page, PullAfter, PullFirst};
+use lg_testing::says::Said::{self, Alive, Failed, Numbered, Suspect};
 
 /// b asks the member at port 7002 for its first records, and tells of itself.
-const ASKS: Case = (
+const ASKS: DetectorCase = (
     "b asks for a table",
     &[
         Takes(Pull(5)),
@@ -29,7 +29,7 @@ const ASKS: Case = (
 );
 
 /// b answers with a Page of the next records, at most six. The claims of the Pull were said before.
-const ANSWERS: &[Case] = &[
+const ANSWERS: &[DetectorCase] = &[
     (
         "four members",
         &[
@@ -104,7 +104,7 @@ const ANSWERS: &[Case] = &[
 
 /// The last of six claims isn't the one with the greatest name: b asks for what comes after it. A shorter Page is the
 /// last.
-const PAGES: Case = (
+const PAGES: DetectorCase = (
     "pages",
     &[
         Takes(From(
@@ -171,7 +171,7 @@ const IS_PINGED: Step<'static> = Takes(Ping(0, 2, "b", &[]));
 
 /// c is queued once, and may be sent four times among two members. Asking for a table, answering and hearing one,
 /// five times, uses up none of these.
-const QUEUED: Case = (
+const QUEUED: DetectorCase = (
     "c is sent four times",
     &[
         Takes(Ping(0, 1, "z", &[Alive("c", 0)])),
@@ -204,7 +204,7 @@ const QUEUED: Case = (
 );
 
 /// Each case of Pulls and Pages.
-const PLAYED: &[&[Case]] = &[&[ASKS], ANSWERS, &[PAGES, QUEUED]];
+const PLAYED: &[&[DetectorCase]] = &[&[ASKS], ANSWERS, &[PAGES, QUEUED]];
 
 #[test]
 fn joins(rt: HostRuntime) {
@@ -245,7 +245,7 @@ const PAGED_SIX: Step<'static> = Takes(In(0, Three, "a", Page, SIX));
 const PAGED_TWELVE: Step<'static> = Takes(In(0, Three, "a", Page, TWELVE));
 
 /// With each `wire` a Page of version 3 is full with twelve claims, and one of another version with six.
-const FULL_PAGES: &[Case] = &[
+const FULL_PAGES: &[DetectorCase] = &[
     (
         "wire 1",
         &[
@@ -284,7 +284,7 @@ const FULL_PAGES: &[Case] = &[
 ];
 
 /// b knows twelve others. With `wire` 3 its first Page has twelve records, in whichever version it is asked.
-const LONG_PAGES: &[Case] = &[
+const LONG_PAGES: &[DetectorCase] = &[
     (
         "thirteen members",
         &[

@@ -1,11 +1,11 @@
 //! More names than a table holds.
-use super::happening::Happens::Ping;
-use super::playing::Step::{self, Acks, Changed, Changes, Known, Members, Takes};
-use super::playing::{opened, play_on};
-use crate::says::Said::{self, Alive, Numbered};
-use crate::says::claim_of;
+use crate::playing::{opened, play_on};
 use lg_detector::MAX_MEMBERS;
+use lg_detector_testing::Happens::Ping;
+use lg_detector_testing::Step::{self, Acks, Changed, Changes, Known, Members, Takes};
 use lg_rules::Record;
+use lg_testing::says::Said::{self, Alive, Numbered};
+use lg_testing::says::claim_of;
 
 /// Six members, the one with the greatest number first.
 fn six_below(end: u32) -> [Said; 6] {

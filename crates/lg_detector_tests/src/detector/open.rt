@@ -1,15 +1,16 @@
 //! The opening, and what isn't accepted.
-use super::happening::Happens::{Ask, Opens, Ping};
-use super::happening::Setting::{Interval, Seed};
-use super::playing::Step::{
+use crate::playing::play_blank;
+use lg_detector_testing::DetectorCase;
+use lg_detector_testing::Happens::{Ask, Opens, Ping};
+use lg_detector_testing::Setting::{Interval, Seed};
+use lg_detector_testing::Step::{
     Acks, AnswersNothing, Changed, Deadline, Events, Known, Members, Next, Ousted, Refuses, Sends,
     Table, Takes,
 };
-use super::playing::{Case, play_blank};
-use crate::says::Said::{Alive, AliveAt};
+use lg_testing::says::Said::{Alive, AliveAt};
 
 /// Nothing is accepted before the opening, and there is one opening.
-const TWO_OPENINGS: Case = (
+const TWO_OPENINGS: DetectorCase = (
     "two openings",
     &[
         Deadline(None),
@@ -32,7 +33,7 @@ const TWO_OPENINGS: Case = (
 );
 
 /// A configuration that isn't allowed opens nothing.
-const BAD_CONFIGURATIONS: Case = (
+const BAD_CONFIGURATIONS: DetectorCase = (
     "a short interval, and a seed twice",
     &[
         Refuses(Opens(0, &[Interval(5)])),
@@ -50,7 +51,7 @@ const BAD_CONFIGURATIONS: Case = (
 
 /// An opening changes no record. Seeds aren't gossiped. A claim is gossiped if it overrides a seed's record, and
 /// isn't if it doesn't.
-const TWO_SEEDS: Case = (
+const TWO_SEEDS: DetectorCase = (
     "two seeds",
     &[
         Takes(Opens(0, &[Seed("d", 7004), Seed("a", 7001)])),
@@ -67,7 +68,7 @@ const TWO_SEEDS: Case = (
 );
 
 /// Each case of an opening.
-const PLAYED: &[&[Case]] = &[&[TWO_OPENINGS], &[BAD_CONFIGURATIONS], &[TWO_SEEDS]];
+const PLAYED: &[&[DetectorCase]] = &[&[TWO_OPENINGS], &[BAD_CONFIGURATIONS], &[TWO_SEEDS]];
 
 #[test]
 fn opens(rt: HostRuntime) {

@@ -1,13 +1,14 @@
 //! Whom rounds probe, through whom, and with which packets. b is opened at 0.
-use super::happening::Happens::{Ack, First, Health, Opens, Ping, TickBy};
-use super::happening::Says::{self, Request};
-use super::happening::Setting::Indirect;
-use super::playing::Due::{Direct, RoundEnd, RoundStart, Suspicion};
-use super::playing::Step::{
+use crate::playing::{play, play_blank};
+use lg_detector_testing::DetectorCase;
+use lg_detector_testing::Happens::{Ack, First, Health, Opens, Ping, TickBy};
+use lg_detector_testing::Setting::Indirect;
+use lg_detector_testing::Step::{
     self, AnswersHealth, Chose, Fired, Next, Pings, Sends, Sent, Takes, Ticks,
 };
-use super::playing::{Case, play, play_blank};
-use crate::says::Said::{self, Alive, AliveAt, Failed, FailedAt, Suspect, SuspectAt};
+use lg_testing::Due::{Direct, RoundEnd, RoundStart, Suspicion};
+use lg_testing::bodies::Says::{self, Request};
+use lg_testing::says::Said::{self, Alive, AliveAt, Failed, FailedAt, Suspect, SuspectAt};
 
 /// c, d, e and f are known, each at a port of its own.
 pub(super) const FOUR: &[Said] = &[
@@ -27,7 +28,7 @@ pub(super) const ASKED: &[Step<'static>] = &[
 ];
 
 /// c, which d suspects, is probed. Nobody can help. Once c has failed, nobody is left to be chosen.
-const A_SUSPECT: &[Case] = &[
+const A_SUSPECT: &[DetectorCase] = &[
     (
         "c is suspected at 2000",
         &[
@@ -64,7 +65,7 @@ const A_SUSPECT: &[Case] = &[
 
 /// Each word picks one of the helpers that are left, in the order of names: f, d and then e. Of two others, the
 /// suspected d helps, and the failed e doesn't.
-const HELPERS: &[Case] = &[
+const HELPERS: &[DetectorCase] = &[
     (
         "three helpers",
         &[
@@ -113,7 +114,7 @@ const HELPERS: &[Case] = &[
 
 /// In the first case b is configured to ask no helpers. In the second, a round counts from the greatest moment that
 /// was handed in.
-const OPENED_OTHERWISE: &[Case] = &[
+const OPENED_OTHERWISE: &[DetectorCase] = &[
     (
         "no helper is asked",
         &[
@@ -164,7 +165,7 @@ const J: Said = Alive("j", 0);
 
 /// Each packet of a reply takes the claims that were sent least often, counting the packets before it too. A Ping
 /// goes to the address of the record.
-const FILLED: &[Case] = &[
+const FILLED: &[DetectorCase] = &[
     (
         "eight claims",
         &[
@@ -191,7 +192,7 @@ const FILLED: &[Case] = &[
 
 /// A member that joins in the middle of a cycle is a candidate at once, and one that failed is none. Then nobody is
 /// left, so the next cycle begins.
-const IN_TURN: Case = (
+const IN_TURN: DetectorCase = (
     "c, e and then d",
     &[
         Takes(Ping(0, 1, "z", &[Alive("c", 0), Alive("e", 0)])),
@@ -212,7 +213,7 @@ const IN_TURN: Case = (
 
 /// A member that was chosen, failed and came back stays chosen in its cycle. One that comes back when nobody was left
 /// is chosen.
-const COMES_BACK: &[Case] = &[
+const COMES_BACK: &[DetectorCase] = &[
     (
         "c, d, and then c",
         &[
@@ -247,7 +248,7 @@ const COMES_BACK: &[Case] = &[
 ];
 
 /// Each case of probing by a b that is open.
-const PLAYED: &[&[Case]] = &[A_SUSPECT, HELPERS, FILLED, &[IN_TURN], COMES_BACK];
+const PLAYED: &[&[DetectorCase]] = &[A_SUSPECT, HELPERS, FILLED, &[IN_TURN], COMES_BACK];
 
 #[test]
 fn probes(rt: HostRuntime) {

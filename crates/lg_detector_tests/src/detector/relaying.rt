@@ -1,17 +1,17 @@
 //! Relays. b is opened at 0, and its first round starts at 0 with nobody to choose. a asks from port 7001, and the
 //! member that is to be pinged is at port 7003.
-use super::happening::Happens::{From, Ping, Tick};
-use super::happening::Says;
-use super::happening::Says::{Ack, Nack, Request};
-use super::playing::Due::{Nothing, RelayEnd, RelayNack, RoundEnd, RoundStart};
-use super::playing::Step::{self, Chose, Fired, Next, Pings, Sends, Sent, Takes};
-use super::playing::{Case, opened, play, play_on};
-use crate::says::Said::{Alive, Suspect};
+use crate::playing::{opened, play, play_on};
 use lg_detector::Detector;
+use lg_detector_testing::DetectorCase;
+use lg_detector_testing::Happens::{From, Ping, Tick};
+use lg_detector_testing::Step::{self, Chose, Fired, Next, Pings, Sends, Sent, Takes};
+use lg_testing::Due::{Nothing, RelayEnd, RelayNack, RoundEnd, RoundStart};
+use lg_testing::bodies::Says::{self, Ack, Nack, Request};
+use lg_testing::says::Said::{Alive, Suspect};
 use std::process::Abort;
 
 /// The Ping is sent for a, so it chooses nobody. An Ack after the Nack is still passed on.
-const NACKED: Case = (
+const NACKED: DetectorCase = (
     "a relay and its Nack",
     &[
         Takes(From(510, "a", 7001, Request(1, "c", 7003), &[])),
@@ -35,7 +35,7 @@ const NACKED: Case = (
 
 /// An Ack of another member than the target, or of another number, does nothing. Nor does one of the target once the
 /// relay has ended.
-const ENDED: Case = (
+const ENDED: DetectorCase = (
     "no Ack",
     &[
         Takes(Tick(0)),
@@ -56,7 +56,7 @@ const ENDED: Case = (
 );
 
 /// An Ack in time cancels both timers of the relay, whatever port it comes from. A second one isn't passed on.
-const ACKED: Case = (
+const ACKED: DetectorCase = (
     "an Ack in time",
     &[
         Takes(Tick(0)),
@@ -71,7 +71,7 @@ const ACKED: Case = (
 );
 
 /// The timers of a relay aren't scaled by the score, which two refutations have raised to 2.
-const UNSCALED: Case = (
+const UNSCALED: DetectorCase = (
     "a score of 2",
     &[
         Takes(Ping(0, 1, "z", &[Suspect("b", 0, "a"), Suspect("b", 1, "a")])),
@@ -89,7 +89,7 @@ const UNSCALED: Case = (
 );
 
 /// Probes and relays are numbered together.
-const NUMBERED: Case = (
+const NUMBERED: DetectorCase = (
     "two probes and a relay",
     &[
         Takes(Ping(0, 1, "z", &[Alive("c", 0)])),
@@ -109,7 +109,7 @@ const NUMBERED: Case = (
 
 /// A request for b itself is acked at once. The claims of a request are said before its target is pinged, so the
 /// target's record goes with the Ping.
-const REQUESTS: &[Case] = &[
+const REQUESTS: &[DetectorCase] = &[
     (
         "a request for b",
         &[
@@ -233,7 +233,7 @@ fn a_flood_of_requests(rt: HostRuntime) {
 
 /// A relay is opened at the latest moment that was handed in, if its request's moment is earlier. Its target's Ack is
 /// passed on at any moment.
-const OUT_OF_ORDER: Case = (
+const OUT_OF_ORDER: DetectorCase = (
     "moments out of order",
     &[
         Takes(Tick(0)),
@@ -261,7 +261,7 @@ const OUT_OF_ORDER: Case = (
 );
 
 /// Each case of a relay.
-const PLAYED: &[&[Case]] = &[
+const PLAYED: &[&[DetectorCase]] = &[
     &[NACKED],
     &[ENDED],
     &[ACKED],

@@ -1,27 +1,23 @@
-//! Detectors that go on from a summary. The summary is taken at any place among the events of a play. From there on,
-//! the detector that is resumed from it replies like the one that all the events happened to. Each play of a b that
-//! is opened at 0 is resumed in this way.
+//! Detectors that go on from a summary: as accusers and Acks come, in plays of their own, and after memory was refused.
+//! Each play of a b that is opened at 0 is resumed too.
 mod comebacks;
 mod scripts;
 
-use super::comparing::{is_same_reply, is_same_state};
-use super::happening::Happens::{self, First, Opens, Ping, Tick};
-use super::happening::{Says, event_of};
-use super::playing::Due::{Direct, RoundEnd, Suspicion};
-use super::playing::Step::{
-    self, Acks, Changed, Fired, Hears, Next, Refuses, Replies, Sent, Takes, Ticks,
-};
-use super::playing::{Case, blank, play, play_blank, play_on, takes};
-use crate::says::Said::{Alive, Failed, Suspect};
+use crate::playing::{play, play_blank, play_on, resume_each};
 use comebacks::COMEBACKS;
-use lg_detector::{Detector, Event, NoMemory, Reply};
+use lg_detector::{Detector, NoMemory};
+use lg_detector_testing::DetectorCase;
+use lg_detector_testing::Happens::{First, Opens, Ping, Tick};
+use lg_detector_testing::Step::{self, Acks, Changed, Fired, Hears, Next, Sent, Takes, Ticks};
+use lg_testing::Due::{Direct, RoundEnd, Suspicion};
+use lg_testing::bodies::Says;
+use lg_testing::says::Said::{Alive, Failed, Suspect};
 use scripts::{DEATH, EXAMPLES, SCRIPTS};
 use std::alloc::Global;
-use std::process::Abort;
 
 /// In the first play, accusers of c come one after another, and each brings the deadline nearer. In the second, Acks
 /// tell of c, and a claim about it may be sent four times among two members.
-const ONE_AFTER_ANOTHER: &[Case] = &[
+const ONE_AFTER_ANOTHER: &[DetectorCase] = &[
     (
         "four accusers",
         &[
@@ -54,94 +50,6 @@ const ONE_AFTER_ANOTHER: &[Case] = &[
         ],
     ),
 ];
-
-/// What happens in a step. The claims that a step hears in several Pings come in one here.
-fn happens_in<'a>(step: &Step<'a>) -> Option<Happens<'a>> {
-    match step {
-        Takes(happens) => Some(*happens),
-        Refuses(happens) => Some(*happens),
-        Replies(happens, _, _, _, _) => Some(*happens),
-        Hears(now, said) => Some(Ping(*now, 1, "z", said)),
-        Ticks(now, _, _, _) => Some(Tick(*now)),
-        _ => None,
-    }
-}
-
-/// What happens before any step of a play.
-pub(super) type Opening = Option<Happens<'static>>;
-
-/// A detector after the opening and the first steps.
-fn before(
-    rt: &impl Abort,
-    alloc: Global,
-    opening: &Opening,
-    steps: &[Step<'_>],
-    place: usize,
-) -> Detector {
-    let mut detector = blank(rt, alloc);
-    if let Some(happens) = opening {
-        detector.absorb(&event_of(happens));
-    }
-    for step in steps.iter().take(place) {
-        if let Some(happens) = happens_in(step) {
-            detector.absorb(&event_of(&happens));
-        }
-    }
-    detector
-}
-
-/// Whether two detectors give the same reply to an event, and are equal after it.
-fn take_alike(one: &mut Detector, other: &mut Detector, event: &Event) -> bool {
-    let (mut reply, mut again) = (Reply::default(), Reply::default());
-    let accepted = takes(one, event, &mut reply);
-    takes(other, event, &mut again) == accepted
-        && is_same_reply(&reply, &again)
-        && is_same_state(one, other)
-}
-
-/// Whether two detectors go on the same way from a place in the steps on.
-fn go_alike(one: &mut Detector, other: &mut Detector, steps: &[Step<'_>], place: usize) -> bool {
-    let mut alike = is_same_state(one, other);
-    for step in steps.iter().skip(place) {
-        if let Some(happens) = happens_in(step) {
-            alike = take_alike(one, other, &event_of(&happens)) && alike;
-        }
-    }
-    alike
-}
-
-/// Resumes a detector at a place in the steps, and takes a summary of the resumed one as well. Both summaries are
-/// resumed once more after their detectors have gone on. Returns whether each of the three goes on like the detector
-/// that all events happened to.
-fn goes_on(
-    rt: &impl Abort,
-    alloc: Global,
-    opening: &Opening,
-    steps: &[Step<'_>],
-    place: usize,
-) -> bool {
-    let mut whole = before(rt, alloc, opening, steps, place);
-    let summary = whole.summary(alloc).expect(rt, "there is memory");
-    let mut resumed = Detector::resume(alloc, &summary).expect(rt, "there is memory");
-    let again = resumed.summary(alloc).expect(rt, "there is memory");
-    let mut alike = go_alike(&mut whole, &mut resumed, steps, place);
-    for kept in [summary, again] {
-        let mut whole = before(rt, alloc, opening, steps, place);
-        let mut late = Detector::resume(alloc, &kept).expect(rt, "there is memory");
-        alike = go_alike(&mut whole, &mut late, steps, place) && alike;
-    }
-    alike
-}
-
-/// Resumes detectors at each place of each case.
-pub(super) fn resume_each(rt: &impl Abort, alloc: Global, opening: &Opening, cases: &[Case]) {
-    for (case, steps) in cases {
-        for place in 0..=steps.len() {
-            let alike = goes_on(rt, alloc, opening, steps, place);
-            assert!(rt; alike, "{case}, resumed before step {place}");
-        }
-    }
-}
 
 #[test]
 fn goes_on_as_accusers_and_acks_come(rt: HostRuntime) {

@@ -1,16 +1,17 @@
 //! Ends of rounds: when they come, whom b suspects then, and its health score. b is opened at 0.
-use super::happening::Happens::{Ack, First, From, Health, Ping};
-use super::happening::Says;
-use super::playing::Due::{Direct, RoundEnd, RoundStart};
-use super::playing::Step::{
+use super::probing::FOUR;
+use crate::playing::play;
+use lg_detector_testing::DetectorCase;
+use lg_detector_testing::Happens::{Ack, First, From, Health, Ping};
+use lg_detector_testing::Step::{
     AnswersHealth, Changed, Chose, Fired, Known, Next, Pings, Sends, Sent, Takes, Ticks,
 };
-use super::playing::{Case, play};
-use super::probing::FOUR;
-use crate::says::Said::{Alive, Failed, Suspect};
+use lg_testing::Due::{Direct, RoundEnd, RoundStart};
+use lg_testing::bodies::Says;
+use lg_testing::says::Said::{Alive, Failed, Suspect};
 
 /// b suspects a member that doesn't ack. Its next Ping to that member takes this record with it.
-const NO_ACK: Case = (
+const NO_ACK: DetectorCase = (
     "c",
     &[
         Takes(Ping(0, 1, "z", &[Alive("c", 0)])),
@@ -33,7 +34,7 @@ const NO_ACK: Case = (
 /// The timers of a round stay as they were set at its start, whatever becomes of the score meanwhile. The two
 /// refutations and the probe that failed make it 3. The greatest score stays what it is if a probe fails and a helper
 /// sends no Nack.
-const SCORES: &[Case] = &[
+const SCORES: &[DetectorCase] = &[
     (
         "two refutations",
         &[
@@ -89,7 +90,7 @@ const SCORES: &[Case] = &[
 
 /// A target that has failed meanwhile: its Ack counts. If no Ack comes, the round marks the score and nobody is
 /// suspected. A helper that has failed meanwhile: its Ack counts.
-const TARGET_FAILED: &[Case] = &[
+const TARGET_FAILED: &[DetectorCase] = &[
     (
         "an Ack",
         &[
@@ -141,7 +142,7 @@ const TARGET_FAILED: &[Case] = &[
 ];
 
 /// A target that failed and came back during its probe, and sends no Ack, is suspected at its new incarnation.
-const TARGET_BACK: Case = (
+const TARGET_BACK: DetectorCase = (
     "c fails and comes back",
     &[
         Takes(Ping(0, 1, "z", &[Alive("c", 0)])),
@@ -154,7 +155,7 @@ const TARGET_BACK: Case = (
 );
 
 /// Each case of ends of rounds.
-const PLAYED: &[&[Case]] = &[&[NO_ACK], SCORES, TARGET_FAILED, &[TARGET_BACK]];
+const PLAYED: &[&[DetectorCase]] = &[&[NO_ACK], SCORES, TARGET_FAILED, &[TARGET_BACK]];
 
 #[test]
 fn ends_rounds(rt: HostRuntime) {

@@ -1,6 +1,6 @@
 //! The table of a member of a simulated group, as plain data. Members are numbers.
-use crate::says::moved;
 use lg_rules::{Addr, Name, Record, Status};
+use lg_testing::says::moved;
 use lg_testing::{claim, numbered};
 
 /// A member, by its number from 0. Its name is `m` and three decimal digits, so the numbers are in the order of names.

@@ -1,12 +1,15 @@
 //! Ticks, and the timers that they fire.
-use super::happening::Happens::{Ask, Health, Opens, Ping, Tick};
-use super::playing::Due::{Direct, Nothing, RoundEnd, RoundStart, Suspicion};
-use super::playing::Step::{self, Events, Fired, Hears, Known, Next, Sends, Table, Takes, Ticks};
-use super::playing::{Case, play, play_blank};
-use crate::says::Said::{self, Alive, Failed, Suspect};
+use crate::playing::{play, play_blank};
+use lg_detector_testing::DetectorCase;
+use lg_detector_testing::Happens::{Ask, Health, Opens, Ping, Tick};
+use lg_detector_testing::Step::{
+    self, Events, Fired, Hears, Known, Next, Sends, Table, Takes, Ticks,
+};
+use lg_testing::Due::{Direct, Nothing, RoundEnd, RoundStart, Suspicion};
+use lg_testing::says::Said::{self, Alive, Failed, Suspect};
 
 /// Nothing fires before the deadline.
-const IDLE: Case = (
+const IDLE: DetectorCase = (
     "c is suspected",
     &[
         Takes(Ping(0, 1, "b", &[Suspect("c", 0, "d")])),
@@ -21,7 +24,7 @@ const IDLE: Case = (
 );
 
 /// A tick fires one timer.
-const THREE_DUE: Case = (
+const THREE_DUE: DetectorCase = (
     "three timers are due",
     &[
         Takes(Ping(0, 1, "b", &[Suspect("d", 2, "a"), Suspect("c", 1, "a")])),
@@ -36,7 +39,7 @@ const THREE_DUE: Case = (
 
 /// The end of a round fires before suspicions, and these before the start of a round. Among suspicions, a name fires
 /// before the names that it begins. Two helpers sent no Nack, so the score is 2 at the start.
-const FIVE_AT_ONCE: Case = (
+const FIVE_AT_ONCE: DetectorCase = (
     "five timers at 5000",
     &[
         Takes(Ping(
@@ -64,7 +67,7 @@ const FIVE_AT_ONCE: Case = (
 );
 
 /// Ticks count from the greatest moment that was handed in.
-const OUT_OF_ORDER: Case = (
+const OUT_OF_ORDER: DetectorCase = (
     "moments out of order",
     &[
         Takes(Opens(5000, &[])),
@@ -90,7 +93,7 @@ fn counts_from_the_greatest_moment(rt: HostRuntime) {
 }
 
 /// A round takes the score at its start. A round that runs already stays as it is.
-const SCALED: Case = (
+const SCALED: DetectorCase = (
     "two refutations",
     &[
         Takes(Tick(0)),
@@ -124,7 +127,7 @@ const LATE: Step<'static> = Takes(Tick(40_000));
 
 /// What is said at 2000, each claim in a Ping of its own, and the deadline of c's suspicion, which no score scales.
 /// After the first start of a round has fired, this is the next deadline.
-const ACCUSED: &[Case] = &[
+const ACCUSED: &[DetectorCase] = &[
     ("d", &[OTHERS, Hears(2000, &[BY_D]), LATE, Next(32_000)]),
     (
         "d, at a score of 1",
@@ -196,7 +199,7 @@ const BY_TWO: Step<'static> = Takes(Ping(
 /// What is said at 3000 of c, which d and e suspected at 2000 among five, and the suspicion's deadline then. After
 /// the first start of a round has fired, this is the next deadline. If there is no suspicion, the next one is 40,500,
 /// when helpers are asked.
-const THEN_SAID: &[Case] = &[
+const THEN_SAID: &[DetectorCase] = &[
     (
         "nothing",
         &[
@@ -344,7 +347,7 @@ const THEN_SAID: &[Case] = &[
 ];
 
 /// No tick fires a suspicion that a claim ended: the next deadline is that of the round.
-const ENDED: &[Case] = &[
+const ENDED: &[DetectorCase] = &[
     (
         "alive",
         &[
@@ -370,7 +373,7 @@ const ENDED: &[Case] = &[
 ];
 
 /// Cases of ticks on a b that is open.
-const PLAYED: &[&[Case]] = &[&[IDLE], &[THREE_DUE, FIVE_AT_ONCE], &[SCALED], ENDED];
+const PLAYED: &[&[DetectorCase]] = &[&[IDLE], &[THREE_DUE, FIVE_AT_ONCE], &[SCALED], ENDED];
 
 #[test]
 fn fires_timers(rt: HostRuntime) {

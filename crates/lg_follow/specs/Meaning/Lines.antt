@@ -2,6 +2,8 @@
 use Rattle.std.specs.Prelude.{ℕ, List, ◌++◌, codes, decimal}
 use Rattle.std.specs.List.{flat_map}
 use Rattle.lg_rules.specs.declared.claim.Claim.{Claim}
+use Rattle.lg_changes.specs.declared.change.Altered.{Altered}
+use Rattle.lg_changes.specs.declared.change.Altered.TheVariants.{Recorded, Forgotten}
 use Rattle.lg_changes.specs.declared.change.Change.{Change}
 use Rattle.lg_text.specs.Meaning.Lines.{newline}
 use Rattle.lg_lines.specs.Meaning.Records.{blank, record_line}
@@ -14,9 +16,18 @@ told_line moment c = decimal moment ++ blank ++ record_line c
 unfoldable pub told_lines : ℕ → List Claim → List ℕ
 told_lines moment records = flat_map (λ c. told_line moment c) records
 
--- the line of a change: that of its record, at its moment
+-- the line of a name that was forgotten at this moment: MS forgotten NAME
+abbrev pub forgotten_line : ℕ → List ℕ → List ℕ
+forgotten_line moment name = decimal moment ++ codes " forgotten " ++ name ++ newline
+
+-- the line of what was altered at this moment: that of the record, or that of the name that was forgotten
+abbrev pub alteration_line : ℕ → Altered → List ℕ
+alteration_line moment (Recorded c) = told_line moment c
+alteration_line moment (Forgotten name) = forgotten_line moment name
+
+-- the line of a change: that of what it altered, at its moment
 abbrev pub changed_line : Change → List ℕ
-changed_line change = told_line change.moment change.member
+changed_line change = alteration_line change.moment change.altered
 
 -- a line for each of these changes
 unfoldable pub changed_lines : List Change → List ℕ

@@ -1,11 +1,14 @@
 -- What a watcher tells of an agent, and what it does to its pass. Each look that it tells of is a sight: the list of
 -- events that the look answered from.
-use Rattle.std.specs.Prelude.{◌≡◌, ◌⊎◌, ℕ, true, List, [], ◌∷◌, ◌++◌, length, map, filter, Option, Some, None, IsSome}
+use Rattle.std.specs.Prelude.{◌≡◌, ◌⊎◌, ℕ, true, Option, Some, None, IsSome}
+use Rattle.std.specs.Prelude.{List, [], ◌∷◌, ◌++◌, length, filter}
 use Rattle.std.specs.Io.KnownBytes.{Appends}
 use mathlib.Core.List.{IsPrefix}
 use Rattle.lg_rules.specs.declared.claim.Claim.{Claim}
 use Rattle.lg_rules.specs.Meaning.Claim.{name_of}
-use Rattle.lg_rules.specs.Meaning.Rows.{name_cmp, put_row}
+use Rattle.lg_rules.specs.Meaning.Rows.{name_cmp, put_row, without_row}
+use Rattle.lg_changes.specs.declared.change.Altered.{Altered}
+use Rattle.lg_changes.specs.declared.change.Altered.TheVariants.{Recorded, Forgotten}
 use Rattle.lg_changes.specs.declared.change.Change.{Change}
 use Rattle.lg_changes.specs.Meaning.Changes.{changes_after, is_after}
 use Rattle.lg_text.specs.Meaning.Running.{AppendsFront}
@@ -78,22 +81,23 @@ TellsEachChangeOnce (first ∷ later) =
     → sights_text (first ∷ later)
     ≡ first_text first ++ changed_lines (changes_between first (last_sight first later))
 
--- A table into which these records were put, one after another. Each takes the place of the record of its name; if
--- there is none, it is added in the order of names.
-abbrev pub puts : List Claim → List Claim → List Claim
-puts [] table = table
-puts (c ∷ cs) table = puts cs (put_row name_cmp name_of c table)
+-- A table that was altered. A record takes the place of the record of its name; if there is none, it is added in the
+-- order of names. The record of a name that was forgotten is taken out.
+abbrev pub alter : Altered → List Claim → List Claim
+alter (Recorded c) table = put_row name_cmp name_of c table
+alter (Forgotten name) table = without_row name_cmp name_of name table
 
--- the records of these changes
-abbrev pub members_of : List Change → List Claim
-members_of changes = map (λ change. change.member) changes
+-- a table that these changes altered, one after another
+abbrev pub alter_each : List Change → List Claim → List Claim
+alter_each [] table = table
+alter_each (change ∷ changes) table = alter_each changes (alter change.altered table)
 
--- The changes lead from this sight to the first of these, and from each of these to the next: the changes between the
--- two sights, put one after another into the table of the one, give the table of the other.
+-- The changes lead from this sight to the first of these, and from each of these to the next: the table of the one, as
+-- the changes between the two sights alter it one after another, is the table of the other.
 unfoldable pub LeadOn : List Event → List (List Event) → Type 0
 LeadOn before [] = Unit {0}
 LeadOn before (s ∷ later) =
-    (puts (members_of (changes_between before s)) (view_after before) ≡ view_after s) × LeadOn s later
+    (alter_each (changes_between before s) (view_after before) ≡ view_after s) × LeadOn s later
 
 -- The changes lead from each sight to the next, and so from the table of the first sight to that of each later one.
 abbrev pub EachLeads : List (List Event) → Type 0
@@ -121,7 +125,8 @@ EndedAs WriterFailed sights seen = Unit {0}
 
 -- What a watcher did from its start to its end, by its pass and by the bytes of its writer: it told some sights, and
 -- wrote the last line behind them. Unless one of the sights missed a change, each change behind the first was told
--- once. Put one after another into the table of a sight, the changes behind it give the table of the next.
+-- once. The changes behind a sight make its table that of the next: without the names that were forgotten, and with the
+-- records that changed.
 pub record HasWatched (before after : PassValue) (held holds : Option (List ℕ)) (end : Watched) : Type 0 where
   pub looked : OnlyLooked before after
   pub sights : List (List Event)

@@ -8,7 +8,7 @@ use Rattle.lg_rules.specs.declared.claim.Status.TheVariants.{Alive, Suspect, Fai
 use Rattle.lg_rules.specs.declared.version.Version.{Version}
 use Rattle.lg_rules.specs.declared.version.Version.TheVariants.{One, Two, Three}
 use Rattle.lg_gossip.specs.declared.queued.Queued.{Queued}
-use Rattle.lg_gossip.specs.Meaning.Queue.{QueueValue, buddy_of, put_of, taken_of, fill_of, filled}
+use Rattle.lg_gossip.specs.Meaning.Queue.{QueueValue, buddy_of, put_of, removed, taken_of, fill_of, filled}
 use Rattle.lg_gossip.specs.Meaning.Queue.{has_news, may_send_about}
 use Rattle.std.specs.Fmt.{digits}
 
@@ -41,6 +41,13 @@ replaces :
     put_of (alive 99) (of_rows (row suspect-c 3 ∷ row (alive 100) 1 ∷ []))
     ≡ of_rows (row (alive 99) 0 ∷ row (alive 100) 1 ∷ [])
 replaces = refl
+
+-- the claim about c is dropped; about e there is none
+drops : removed (99 ∷ []) (of_rows (row suspect-c 3 ∷ row (alive 100) 1 ∷ [])) ≡ of_rows (row (alive 100) 1 ∷ [])
+drops = refl
+
+drops_none : removed (101 ∷ []) (of_rows (row suspect-c 3 ∷ [])) ≡ of_rows (row suspect-c 3 ∷ [])
+drops_none = refl
 
 to_buddy :
     fill_of (of_rows (row suspect-c 0 ∷ row (alive 100) 0 ∷ [])) (Some suspect-c) 9

@@ -23,7 +23,7 @@ use Rattle.lg_rules.specs.declared.claim.Status.{Status}
 use Rattle.lg_rules.specs.declared.claim.Status.TheVariants.{Alive, Suspect, Failed, Left}
 use Rattle.lg_rules.specs.declared.version.Version.{Version}
 use Rattle.lg_rules.specs.Meaning.Claim.{name_of}
-use Rattle.lg_rules.specs.Meaning.Rows.{name_cmp, is_same, is_among, put_row, row_at}
+use Rattle.lg_rules.specs.Meaning.Rows.{name_cmp, is_same, is_among, put_row, row_at, without_row}
 use Rattle.lg_rules.specs.Meaning.Version.{most_claims_of, tells}
 use Rattle.lg_gossip.specs.declared.queued.Queued.{Queued}
 
@@ -61,6 +61,14 @@ put_of c queue = record {
   lambda = queue.lambda;
   version = queue.version;
   rows = put_row name_cmp queued_name (fresh queue.version c) queue.rows;
+}
+
+-- a queue once the claim about a member was dropped, if there was one
+abbrev pub removed : List ℕ → QueueValue → QueueValue
+removed name queue = record {
+  lambda = queue.lambda;
+  version = queue.version;
+  rows = without_row name_cmp queued_name name queue.rows;
 }
 
 -- how many decimal digits a number has

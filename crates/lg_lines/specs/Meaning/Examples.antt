@@ -9,7 +9,7 @@ use Rattle.lg_rules.specs.declared.claim.Status.{Status}
 use Rattle.lg_rules.specs.declared.claim.Status.TheVariants.{Alive, Suspect, Failed, Left}
 use Rattle.lg_timers.specs.declared.timer.TimerId.{TimerId}
 use Rattle.lg_timers.specs.declared.timer.TimerId.TheVariants.{RoundEnd, Suspicion, Direct}
-use Rattle.lg_timers.specs.declared.timer.TimerId.TheVariants.{RelayNack, RelayEnd, RoundStart}
+use Rattle.lg_timers.specs.declared.timer.TimerId.TheVariants.{RelayNack, RelayEnd, RoundStart, Forget}
 use Rattle.lg_packet.specs.declared.packet.Body.{Body}
 use Rattle.lg_packet.specs.declared.packet.Body.TheVariants.{Ping, PingReq, Ack, Nack, Page}
 use Rattle.lg_rules.specs.declared.version.Version.TheVariants.{One}
@@ -21,11 +21,11 @@ use Rattle.lg_detector.specs.declared.reply.Reply.{Reply}
 use Rattle.lg_detector.specs.Meaning.Examples.{a, b, c, at, nothing, opening, says, ticks, timer_of}
 use Rattle.lg_text.specs.Meaning.Lines.{newline}
 use Rattle.lg_lines.specs.Meaning.Records.{table_text}
-use Rattle.lg_lines.specs.Meaning.Replies.{packet_text, reply_text}
+use Rattle.lg_lines.specs.Meaning.Replies.{forgotten_text, packet_text, reply_text}
 
 -- What has to be unfolded to compute a worked reply.
 unfoldable pub by_computing : Unit {0}
-unfolding digits hex_on_literals spelling table_text reply_text
+unfolding digits hex_on_literals spelling table_text forgotten_text reply_text
 by_computing = tt
 
 -- some lines, each with its newline
@@ -194,6 +194,23 @@ leaves_again : reply_text (Leave 30 (0 ∷ 0 ∷ 0 ∷ 0 ∷ 0 ∷ 0 ∷ 0 ∷ 0
 unfolding by_computing
 leaves_again = refl
 
+-- b, which left or failed long ago, is forgotten
+forgets_a_member : reply_text (ticks 86400010) 7
+    (record (fires (Forget (b ∷ [])) 86400500) { forgotten = record { items = (b ∷ []) ∷ [] } })
+    ≡ lines (codes "fired forget b" ∷ codes "forgot b" ∷ codes "next 86400500" ∷ [])
+unfolding by_computing
+forgets_a_member = refl
+
+-- names that were forgotten stand in their order, also one that is known again
+makes_room : reply_text (says 20 (Ack 1 None) (claimed a 7001 Alive 1 ∷ claimed b 7002 Alive 0 ∷ [])) 7
+    (record (nothing 500) {
+      changed = record { items = claimed b 7002 Alive 0 ∷ [] };
+      forgotten = record { items = (c ∷ []) ∷ (b ∷ []) ∷ [] };
+    })
+    ≡ lines (codes "record b alive 0 127.0.0.1:7002" ∷ codes "forgot c" ∷ codes "forgot b" ∷ codes "next 500" ∷ [])
+unfolding by_computing
+makes_room = refl
+
 -- the packets of an event are numbered one after another
 asks_two_helpers : reply_text (ticks 500) 9
     (record (fires Direct 1000)
@@ -211,12 +228,14 @@ says_all : reply_text (ticks 500) 1
       fired = Some (timer_of 0 RoundStart);
       answer = Some (OfStatus None);
       changed = record { items = claimed b 7002 Alive 0 ∷ [] };
+      forgotten = record { items = (c ∷ []) ∷ [] };
       ousted = true;
     })
     ≡ lines (codes "fired round-start"
     ∷ codes "answer none"
     ∷ codes "send 1 127.0.0.1:7002 534c010301610000000100"
     ∷ codes "record b alive 0 127.0.0.1:7002"
+    ∷ codes "forgot c"
     ∷ codes "ousted"
     ∷ codes "next 600" ∷ [])
 unfolding by_computing

@@ -1,11 +1,12 @@
 -- The reply of a detector to an event, as lines of text.
 use Rattle.std.specs.Prelude.{ℕ, ◌+◌, Bool, List, [], ◌∷◌, ◌++◌}
 use Rattle.std.specs.Prelude.{Option, Some, None, codes, decimal, if◌then◌else◌}
+use Rattle.std.specs.List.{flat_map}
 use Rattle.hex.specs.Hex.{encode_lower}
 use Rattle.lg_timers.specs.declared.timer.Timer.{Timer}
 use Rattle.lg_timers.specs.declared.timer.TimerId.{TimerId}
 use Rattle.lg_timers.specs.declared.timer.TimerId.TheVariants.{RoundEnd, Suspicion, Direct}
-use Rattle.lg_timers.specs.declared.timer.TimerId.TheVariants.{RelayNack, RelayEnd, RoundStart, Gossip}
+use Rattle.lg_timers.specs.declared.timer.TimerId.TheVariants.{RelayNack, RelayEnd, RoundStart, Forget, Gossip}
 use Rattle.lg_packet.specs.Meaning.Spelling.{spelling}
 use Rattle.lg_packet.specs.declared.packet.Packet.{Packet}
 use Rattle.lg_detector.specs.declared.event.Event.{Event}
@@ -26,6 +27,7 @@ kind_text Direct = codes "direct"
 kind_text (RelayNack relay) = codes "relay-nack"
 kind_text (RelayEnd relay) = codes "relay-end"
 kind_text RoundStart = codes "round-start"
+kind_text (Forget member) = codes "forget"
 kind_text Gossip = codes "gossip"
 
 -- the member, or the number of the relay, that a timer is about, if it is about one
@@ -36,6 +38,7 @@ subject_text Direct = []
 subject_text (RelayNack relay) = blank ++ decimal relay
 subject_text (RelayEnd relay) = blank ++ decimal relay
 subject_text RoundStart = []
+subject_text (Forget member) = blank ++ member
 subject_text Gossip = []
 
 -- the line of a tick: the timer that it fired, or that it fired none
@@ -82,6 +85,13 @@ abbrev pub sends_text : ℕ → List Outgoing → List ℕ
 sends_text k [] = []
 sends_text k (s ∷ ss) = send_line k s ++ sends_text (k + 1) ss
 
+-- the line of a name that was forgotten, and those of several
+abbrev pub forgot_line : List ℕ → List ℕ
+forgot_line name = codes "forgot " ++ name ++ newline
+
+unfoldable pub forgotten_text : List (List ℕ) → List ℕ
+forgotten_text names = flat_map forgot_line names
+
 -- the line `ousted`, if the member is ousted
 abbrev pub ousted_text : Bool → List ℕ
 ousted_text ousted = if ousted then codes "ousted" ++ newline else []
@@ -94,4 +104,5 @@ next_text next = codes "next " ++ decimal next ++ newline
 unfoldable pub reply_text : Event → ℕ → Reply → List ℕ
 reply_text event k reply =
     fired_text event reply.fired ++ answer_line reply.answer ++ sends_text k reply.sends.items
-    ++ table_text reply.changed.items ++ ousted_text reply.ousted ++ next_text reply.next
+    ++ table_text reply.changed.items ++ forgotten_text reply.forgotten.items
+    ++ ousted_text reply.ousted ++ next_text reply.next

@@ -22,8 +22,8 @@ use Rattle.lg_membership.specs.declared.addressee.Addressee.{Addressee}
 use Rattle.lg_membership.specs.declared.addressee.Addressee.TheVariants.{Anybody, Pinged, Acked}
 use Rattle.lg_membership.specs.declared.origin.Origin.{Origin}
 use Rattle.lg_membership.specs.declared.origin.Origin.TheVariants.{Seed, Group}
-use Rattle.lg_membership.specs.Meaning.Log.{GroupLog, Opened, Said, Sent, Departed, config, me, own, table}
-use Rattle.lg_membership.specs.Meaning.Log.{live, known}
+use Rattle.lg_membership.specs.Meaning.Log.{GroupLog, Opened, Said, Sent, Departed, Forgot, config, me, own, forgets}
+use Rattle.lg_membership.specs.Meaning.Log.{table, live, known, loses}
 use Rattle.lg_membership.specs.Meaning.Suspicions.{SuspectedValue, suspicions, confirms}
 
 -- how often a claim may be sent for each decimal digit of the number of members that aren't gone
@@ -87,14 +87,15 @@ abbrev pub put_if : Origin → Bool → Claim → Option Claim
 put_if Seed counts c = None
 put_if Group counts c = if counts then Some c else None
 
-abbrev pub put_of_other : Origin → List Claim → List SuspectedValue → Claim → Option Claim
-put_of_other origin rows suspects c = put_if origin (takes rows c || confirms rows suspects c) c
+abbrev pub put_of_other : Origin → Bool → List Claim → List SuspectedValue → Claim → Option Claim
+put_of_other origin forgetting rows suspects c =
+    put_if origin (takes forgetting rows c || confirms forgetting rows suspects c) c
 
 unfoldable pub put_by : Origin → Bool → GroupLog → Claim → Option Claim
 put_by origin waits log c =
     if is_same name_cmp c.name (me log)
     then put_of_oneself (version_sent (config log)) waits (own log) c
-    else put_of_other origin (table log) (suspicions log) c
+    else put_of_other origin (forgets log) (table log) (suspicions log) c
 
 -- What a leave puts into the queue: this member's own record, which is Left then. A further leave puts nothing.
 abbrev pub put_if_leaves : Bool → OwnValue → Option Claim
@@ -114,7 +115,8 @@ abbrev pub send_limit_after : GroupLog → ℕ
 send_limit_after log = limit_of (lambda_in (config log)) (live log)
 
 -- The claim about a member that is queued, with its sends. The opening puts one's own arrival, and a claim that is said
--- and a leave put what is said above. Each packet that takes a claim about the member counts as one more send.
+-- and a leave put what is said above. Each packet that takes a claim about the member counts as one more send. If the
+-- member is forgotten, nothing is queued about it any more.
 unfoldable pub queued : GroupLog → List ℕ → Option Queued
 queued [] m = None
 queued (Opened opening ∷ log) m =
@@ -125,6 +127,7 @@ queued (Said now origin c ∷ log) m =
     queued_by (version_sent (config log)) (put_by origin waits log c) m (queued log m)
 queued (Sent taken ∷ log) m = option_map (sent_once taken) (queued log m)
 queued (Departed ∷ log) m = queued_by (version_sent (config log)) (put_of_leave (own log)) m (queued log m)
+queued (Forgot n ∷ log) m = if loses log n m then None else queued log m
 
 -- whether the queue still has this member's own record to send
 abbrev pub own_waits : GroupLog → Bool

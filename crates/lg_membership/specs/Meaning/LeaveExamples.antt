@@ -8,7 +8,7 @@ use Rattle.lg_rules.specs.declared.claim.Status.{Status}
 use Rattle.lg_rules.specs.declared.claim.Status.TheVariants.{Alive, Suspect, Failed, Left}
 use Rattle.lg_rules.specs.declared.version.Version.TheVariants.{Two, Three}
 use Rattle.lg_rules.specs.Meaning.Own.{OwnValue, own_of}
-use Rattle.lg_rules.specs.Meaning.Table.{record_of, roster, table_of}
+use Rattle.lg_rules.specs.Meaning.Table.{record_of, story, roster, table_of}
 use Rattle.lg_timing.specs.Meaning.Config.{defaults}
 use Rattle.lg_gossip.specs.declared.queued.Queued.{Queued}
 use Rattle.lg_gossip.specs.Meaning.Queue.{taken_of}
@@ -69,32 +69,32 @@ unfolding own_of
 leave_is_known = refl
 
 leave_is_shown : group_view (left_in 3) ≡ on b Left 0 ∷ []
-unfolding own_of table_of record_of roster
+unfolding own_of table_of record_of story roster
 leave_is_shown = refl
 
 leave_is_queued : queue (left_in 3) ≡ record { lambda = 4; version = Three; rows = row (on b Left 0) 0 ∷ [] }
-unfolding own_of table_of record_of roster put_by queued queue_rows
+unfolding own_of table_of record_of story roster put_by queued queue_rows
 leave_is_queued = refl
 
 leave_is_queued_in_two : queue (left_in 2) ≡ record { lambda = 4; version = Two; rows = row (on b Left 0) 0 ∷ [] }
-unfolding own_of table_of record_of roster put_by queued queue_rows
+unfolding own_of table_of record_of story roster put_by queued queue_rows
 leave_is_queued_in_two = refl
 
 leave_is_sent : fill Anybody (left_in 3) ≡ on b Left 0 ∷ []
-unfolding own_of table_of record_of roster put_by queued queue_rows taken_of digits
+unfolding own_of table_of record_of story roster put_by queued queue_rows taken_of digits
 leave_is_sent = refl
 
 leave_is_paged : page_of Three None (group_view (left_in 3)) ≡ on b Left 0 ∷ []
-unfolding own_of table_of record_of roster
+unfolding own_of table_of record_of story roster
 leave_is_paged = refl
 
 -- The leave replaces what was queued about b. b counts all the same among the members that aren't gone.
 leave_replaces_refutation : of_b (leaves (hears (on b by_c 0) (opened_in 3))) ≡ Some (row (on b Left 1) 0)
-unfolding own_of table_of record_of roster put_by queued digits
+unfolding own_of table_of record_of story roster put_by queued digits
 leave_replaces_refutation = refl
 
 leaver_counts : live (leaves (hears (on c Alive 0) (opened_in 3))) ≡ 2
-unfolding table_of record_of roster
+unfolding table_of record_of story roster
 leaver_counts = refl
 
 -- A second leave does nothing, whatever was sent before it.
@@ -106,7 +106,7 @@ second_leave_puts_none : put_of_leave (left_at 0) ≡ None
 second_leave_puts_none = refl
 
 second_leave_queues_none : of_b (leaves (sent_out 0 (left_in 3))) ≡ Some (row (on b Left 0) 4)
-unfolding own_of table_of record_of roster put_by queued digits
+unfolding own_of table_of record_of story roster put_by queued digits
 second_leave_queues_none = refl
 
 -- What is queued about b once its leave was sent, and then a claim is heard. A claim at b's own number or below it does
@@ -115,28 +115,28 @@ abbrev told : Claim → GroupLog
 told claim = hears claim (sent_out 0 (left_in 3))
 
 suspected_at_its_number : of_b (told (on b by_c 0)) ≡ Some (row (on b Left 0) 4)
-unfolding own_of table_of record_of roster put_by queued digits
+unfolding own_of table_of record_of story roster put_by queued digits
 suspected_at_its_number = refl
 
 failed_at_its_number : of_b (told (on b Failed 0)) ≡ Some (row (on b Left 0) 4)
-unfolding own_of table_of record_of roster put_by queued digits
+unfolding own_of table_of record_of story roster put_by queued digits
 failed_at_its_number = refl
 
 left_at_its_number : of_b (told (on b Left 0)) ≡ Some (row (on b Left 0) 4)
-unfolding own_of table_of record_of roster put_by queued digits
+unfolding own_of table_of record_of story roster put_by queued digits
 left_at_its_number = refl
 
 -- b is told that it failed at 5: its record is Left at 5, and is queued.
 failed_at_5 : of_b (told (on b Failed 5)) ≡ Some (row (on b Left 5) 0)
-unfolding own_of table_of record_of roster put_by queued digits
+unfolding own_of table_of record_of story roster put_by queued digits
 failed_at_5 = refl
 
 failed_at_5_is_shown : group_view (told (on b Failed 5)) ≡ on b Left 5 ∷ []
-unfolding own_of table_of record_of roster
+unfolding own_of table_of record_of story roster
 failed_at_5_is_shown = refl
 
 alive_at_5 : of_b (told (on b Alive 5)) ≡ Some (row (on b Left 5) 0)
-unfolding own_of table_of record_of roster put_by queued digits
+unfolding own_of table_of record_of story roster put_by queued digits
 alive_at_5 = refl
 
 -- Doubts of b at a smaller number than its own are not answered.
@@ -144,15 +144,15 @@ abbrev doubted : Claim → GroupLog
 doubted claim = hears claim (sent_out 5 (told (on b Failed 5)))
 
 suspected_after_leaving : of_b (doubted (on b by_c 3)) ≡ Some (row (on b Left 5) 4)
-unfolding own_of table_of record_of roster put_by queued digits
+unfolding own_of table_of record_of story roster put_by queued digits
 suspected_after_leaving = refl
 
 failed_after_leaving : of_b (doubted (on b Failed 4)) ≡ Some (row (on b Left 5) 4)
-unfolding own_of table_of record_of roster put_by queued digits
+unfolding own_of table_of record_of story roster put_by queued digits
 failed_after_leaving = refl
 
 doubt_is_no_news : news (doubted (on b Failed 4)) ≡ false
-unfolding own_of table_of record_of roster put_by queued queue_rows digits
+unfolding own_of table_of record_of story roster put_by queued queue_rows digits
 doubt_is_no_news = refl
 
 -- Nothing ousts b.
@@ -161,12 +161,12 @@ unfolding own_of
 never_ousted = refl
 
 greatest_is_queued : of_b (told (on b by_c 1000000000)) ≡ Some (row (on b Left 1000000000) 0)
-unfolding own_of table_of record_of roster put_by queued digits
+unfolding own_of table_of record_of story roster put_by queued digits
 greatest_is_queued = refl
 
 -- An opening forgets the leave. A leave before the opening changes no record.
 opened_anew : group_view (Opened (defaults (b ∷ []) here) ∷ left_in 3) ≡ on b Alive 0 ∷ []
-unfolding own_of table_of record_of roster
+unfolding own_of table_of record_of story roster
 opened_anew = refl
 
 leaves_unopened : group_view (leaves []) ≡ []

@@ -7,13 +7,15 @@ use Rattle.lg_rules.specs.declared.members.Heard.{Heard}
 use Rattle.lg_rules.specs.declared.members.Heard.TheVariants.{Overrode, Accused, Same, Ignored, NoRoom}
 use Rattle.lg_rules.specs.Meaning.Claim.{accuser_of}
 use Rattle.lg_rules.specs.Meaning.Past.{or_else}
-use Rattle.lg_rules.specs.Meaning.Rows.{name_cmp, is_same, row_at}
-use Rattle.lg_rules.specs.Meaning.Table.{roster, record_of, hearing_of}
+use Rattle.lg_rules.specs.Meaning.Rows.{name_cmp, is_same, is_among, row_at}
+use Rattle.lg_rules.specs.Meaning.Table.{record_of, hearing_of}
 use Rattle.lg_timing.specs.declared.config.Config.{Config}
 use Rattle.lg_timing.specs.Meaning.Timeouts.{range_of}
 use Rattle.lg_suspicion.specs.Meaning.Accusers.{SuspicionValue, suspicion_after, accuser_counts}
 use Rattle.lg_gossip.specs.Meaning.Queue.{is_suspect}
-use Rattle.lg_membership.specs.Meaning.Log.{GroupLog, Opened, Said, Sent, Departed, config, me, said, live}
+use Rattle.lg_membership.specs.Meaning.Log.{GroupLog, Opened, Said, Sent, Departed, Forgot, config, me}
+use Rattle.lg_membership.specs.Meaning.Log.{own_facts, forgets}
+use Rattle.lg_membership.specs.Meaning.Log.{known_others, said, live}
 
 -- a member that is suspected, and its suspicion
 pub record SuspectedValue : Type 0 where
@@ -28,14 +30,20 @@ accuses m i c = is_same name_cmp c.name m && (is_suspect c.status && c.incarnati
 abbrev pub accusers_in : List ℕ → ℕ → List Claim → List (List ℕ)
 accusers_in m i past = filter_map (λ c. accuser_of c.status) (filter (accuses m i) past)
 
--- the log up to the first such claim, including it
+-- The log up to the first such claim that counts, including it. A claim doesn't count if its member was forgotten
+-- since, or is unknown once it was said.
+abbrev pub counts_after : GroupLog → List ℕ → Bool
+counts_after log m = is_among name_cmp m (known_others log)
+
 abbrev pub raise_of : List ℕ → ℕ → GroupLog → Option GroupLog
 raise_of m i [] = None
 raise_of m i (Opened opening ∷ log) = None
 raise_of m i (Said now origin c ∷ log) =
-    or_else (raise_of m i log) (if accuses m i c then Some (Said now origin c ∷ log) else None)
+    let after = Said now origin c ∷ log in
+    or_else (raise_of m i log) (if accuses m i c && counts_after after m then Some after else None)
 raise_of m i (Sent taken ∷ log) = raise_of m i log
 raise_of m i (Departed ∷ log) = raise_of m i log
+raise_of m i (Forgot n ∷ log) = if is_same name_cmp n m then None else raise_of m i log
 
 -- the moment at which the latest fact of that log was said
 abbrev pub said_at : GroupLog → ℕ
@@ -54,20 +62,21 @@ abbrev pub suspected_by : Config → GroupLog → List ℕ → Option Claim → 
 suspected_by opening log m None = None
 suspected_by opening log m (Some r) =
     if is_suspect r.status
-    then suspicion_since opening m (accusers_in m r.incarnation (said log)) (raise_of m r.incarnation log)
+    then suspicion_since opening m (accusers_in m r.incarnation (said log m)) (raise_of m r.incarnation log)
     else None
 
 -- nobody is suspected before the opening
 abbrev pub suspected_in : Option Config → GroupLog → List ℕ → Option SuspectedValue
 suspected_in None log m = None
-suspected_in (Some opening) log m = suspected_by opening log m (record_of (said log) m)
+suspected_in (Some opening) log m =
+    suspected_by opening log m (record_of (forgets log) (me log) (own_facts log) m)
 
 unfoldable pub suspected : GroupLog → List ℕ → Option SuspectedValue
 suspected log m = suspected_in (config log) log m
 
 -- the suspicions of the other members, in the order of names
 unfoldable pub suspicions : GroupLog → List SuspectedValue
-suspicions log = filter_map (suspected log) (roster (me log) (said log))
+suspicions log = filter_map (suspected log) (known_others log)
 
 abbrev pub suspected_name : SuspectedValue → List ℕ
 suspected_name r = r.name
@@ -86,6 +95,7 @@ counts_in None row = false
 counts_in (Some accuser) None = false
 counts_in (Some accuser) (Some row) = accuser_counts row.suspicion accuser
 
-abbrev pub confirms : List Claim → List SuspectedValue → Claim → Bool
-confirms table rows c =
-    is_accusation (hearing_of table c) && counts_in (accuser_of c.status) (row_at name_cmp suspected_name c.name rows)
+abbrev pub confirms : Bool → List Claim → List SuspectedValue → Claim → Bool
+confirms forgets table rows c =
+    is_accusation (hearing_of forgets table c)
+    && counts_in (accuser_of c.status) (row_at name_cmp suspected_name c.name rows)

@@ -67,9 +67,9 @@ change_by _ opened now n row c = Nothing
 abbrev pub row_about : Claim → List SuspectedValue → Option SuspectedValue
 row_about c rows = row_at name_cmp suspected_name c.name rows
 
-abbrev pub change_of : Option Config → ℕ → List Claim → List SuspectedValue → Claim → Change
-change_of opened now table rows c =
-    change_by (hearing_of table c) opened now (live_in (heard table c)) (row_about c rows) c
+abbrev pub change_of : Bool → Option Config → ℕ → List Claim → List SuspectedValue → Claim → Change
+change_of forgets opened now table rows c =
+    change_by (hearing_of forgets table c) opened now (live_in (heard forgets table c)) (row_about c rows) c
 
 -- such a change is about one member alone
 abbrev pub IsAbout : List ℕ → Change → Type 0
@@ -101,9 +101,10 @@ is_override _ = false
 
 -- whether the claim's member joins those that aren't gone, or leaves them; and the same by how many aren't gone
 -- before the claim and after it
-abbrev pub presence_heard : List Claim → Claim → Presence
-presence_heard table c =
-    presence_of (is_among name_cmp c.name (live_names table)) (is_among name_cmp c.name (live_names (heard table c)))
+abbrev pub presence_heard : Bool → List Claim → Claim → Presence
+presence_heard forgets table c =
+    presence_of (is_among name_cmp c.name (live_names table))
+    (is_among name_cmp c.name (live_names (heard forgets table c)))
 
 abbrev pub presence_by : ℕ → ℕ → Presence
 presence_by before after = by_order (nat_cmp after before) Leaves Remains Joins

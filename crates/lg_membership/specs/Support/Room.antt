@@ -23,7 +23,8 @@ HasSeat key m rows = row_at name_cmp key m rows ≡ None → length rows < MAX_O
 
 pub record HasRoom (origin : Origin) (c : Claim) (s : GroupState) : Type 0 where
   pub place : HasPlace (put_in origin c s) s.queue
-  pub seat : c.name ≢ s.members.own → takes s.members.table c ≡ true → HasSeat suspected_name c.name s.suspicions
+  pub seat : c.name ≢ s.members.own → takes s.members.forgets s.members.table c ≡ true
+      → HasSeat suspected_name c.name s.suspicions
 
 -- what holds of each state: the records of the others and their suspicions are in the order of names, and no record
 -- there is about this member

@@ -1,23 +1,27 @@
 -- What a member knows of its group, as plain data, and what each fact does to it.
-use Rattle.std.specs.Prelude.{ℕ, Bool, false, List, [], ◌∷◌, map, Option, Some, None, if◌then◌else◌}
+use Rattle.std.specs.Prelude.{ℕ, ◌+◌, Bool, false, not, ◌||◌, nat_le, List, [], ◌∷◌, length, map}
+use Rattle.std.specs.Prelude.{Option, Some, None, if◌then◌else◌}
+use Rattle.lg_rules.specs.Meaning.Bounds.{most_others}
 use Rattle.lg_rules.specs.declared.claim.Claim.{Claim}
 use Rattle.lg_rules.specs.declared.own.OwnHeard.{OwnHeard}
 use Rattle.lg_rules.specs.declared.version.Version.{Version}
 use Rattle.lg_rules.specs.Meaning.Claim.{name_of}
 use Rattle.lg_rules.specs.Meaning.Own.{OwnValue, own_of, own_hearing, own_heard, own_left}
-use Rattle.lg_rules.specs.Meaning.Rows.{name_cmp, is_same, put_row}
-use Rattle.lg_rules.specs.Meaning.Table.{MembersValue, known_of, takes, heard, names_heard, live_in}
+use Rattle.lg_rules.specs.Meaning.Rows.{name_cmp, is_same, put_row, without_row}
+use Rattle.lg_rules.specs.Meaning.Table.{MembersValue, known_of, takes, members_heard, members_forgot, live_in}
+use Rattle.lg_rules.specs.Meaning.Table.{table_needs_room}
 use Rattle.lg_rules.specs.Support.Standing.{Standing}
 use Rattle.lg_timing.specs.declared.config.Config.{Config}
-use Rattle.lg_timing.specs.Meaning.Config.{version_of}
-use Rattle.lg_gossip.specs.Meaning.Queue.{QueueValue, put_of, may_send_about, sent_once, taken_of, fill_of}
+use Rattle.lg_timing.specs.Meaning.Config.{version_of, does_forget}
+use Rattle.lg_gossip.specs.Meaning.Queue.{QueueValue, put_of, removed, may_send_about, sent_once, taken_of, fill_of}
 use Rattle.lg_membership.specs.declared.addressee.Addressee.{Addressee}
 use Rattle.lg_membership.specs.declared.applied.Applied.{Applied}
 use Rattle.lg_membership.specs.declared.applied.Deadline.TheVariants.{Stays}
 use Rattle.lg_membership.specs.declared.applied.Presence.TheVariants.{Stays as Remains}
 use Rattle.lg_membership.specs.declared.origin.Origin.{Origin}
-use Rattle.lg_membership.specs.Meaning.Log.{GroupLog, config, me, said, own, live_names, view_in}
-use Rattle.lg_membership.specs.Meaning.Suspicions.{SuspectedValue, suspicions}
+use Rattle.lg_membership.specs.Meaning.Log.{GroupLog, config, me, own_facts, own, forgets, forgets_in}
+use Rattle.lg_membership.specs.Meaning.Log.{live_names, view_in}
+use Rattle.lg_membership.specs.Meaning.Suspicions.{SuspectedValue, suspicions, suspected_name}
 use Rattle.lg_membership.specs.Meaning.Gossip.{version_sent, own_arrival, answers_doubt, put_of_own, put_of_oneself}
 use Rattle.lg_membership.specs.Meaning.Gossip.{put_of_other, put_of_leave, queue, buddy_record}
 use Rattle.lg_membership.specs.Meaning.Applied.{is_refuted}
@@ -36,7 +40,7 @@ abbrev pub group_state_of : GroupLog → GroupState
 group_state_of log = record {
   config = config log;
   own = own log;
-  members = known_of (me log) (said log);
+  members = known_of (forgets log) (me log) (own_facts log);
   suspicions = suspicions log;
   queue = queue log;
 }
@@ -58,14 +62,14 @@ abbrev pub open_group : Config → GroupState → GroupState
 open_group opening s = record {
   config = Some opening;
   own = own_of opening.name opening.addr [];
-  members = known_of opening.name [];
+  members = known_of (does_forget opening) opening.name [];
   suspicions = [];
   queue = opened_queue opening (own_of opening.name opening.addr []);
 }
 
 -- what this member knows of itself, and the records of the others
 abbrev pub standing : GroupState → Standing
-standing s = record { own = s.own; table = s.members.table }
+standing s = record { own = s.own; forgets = s.members.forgets; table = s.members.table }
 
 -- the others that aren't gone
 abbrev pub live_others_in : GroupState → List (List ℕ)
@@ -86,7 +90,7 @@ with_paged v after r rows = if is_in_page v after r then put_row name_cmp name_o
 
 -- what a claim at a moment changes of the suspicions
 abbrev pub change_in : ℕ → Claim → GroupState → Change
-change_in now c s = change_of s.config now s.members.table s.suspicions c
+change_in now c s = change_of s.members.forgets s.config now s.members.table s.suspicions c
 
 -- what hearing a claim about this member does
 abbrev pub own_hearing_in : Claim → GroupState → OwnHeard
@@ -107,7 +111,7 @@ abbrev pub put_in : Origin → Claim → GroupState → Option Claim
 put_in origin c s =
     if is_same name_cmp c.name s.own.name
     then own_put_in c s
-    else put_of_other origin s.members.table s.suspicions c
+    else put_of_other origin s.members.forgets s.members.table s.suspicions c
 
 -- the state once a claim was applied
 abbrev pub apply_own : Claim → GroupState → GroupState
@@ -118,13 +122,9 @@ apply_own c s = record s {
 
 abbrev pub apply_other : ℕ → Origin → Claim → GroupState → GroupState
 apply_other now origin c s = record s {
-  members = record {
-    own = s.members.own;
-    table = heard s.members.table c;
-    names = names_heard s.members.names c;
-  };
+  members = members_heard s.members c;
   suspicions = suspicions_after (change_in now c s) s.suspicions;
-  queue = queue_with (put_of_other origin s.members.table s.suspicions c) s.queue;
+  queue = queue_with (put_of_other origin s.members.forgets s.members.table s.suspicions c) s.queue;
 }
 
 unfoldable pub apply_to_group : ℕ → Origin → Claim → GroupState → GroupState
@@ -150,8 +150,9 @@ abbrev pub applied_other : ℕ → Claim → GroupState → Applied
 applied_other now c s =
     let table = s.members.table in
     let deadline = deadline_of_change (change_in now c s) in
-    let taken = if_open s.config (taken_if (takes table c) c) in
-    record { changed = taken; refuted = false; deadline = deadline; presence = presence_heard table c }
+    let taken = if_open s.config (taken_if (takes s.members.forgets table c) c) in
+    let presence = presence_heard s.members.forgets table c in
+    record { changed = taken; refuted = false; deadline = deadline; presence = presence }
 
 unfoldable pub applied : ℕ → Claim → GroupState → Applied
 applied now c s = if is_same name_cmp c.name s.own.name then applied_own c s else applied_other now c s
@@ -165,6 +166,26 @@ leave_group s = record s {
 
 abbrev pub changed_by_leave : GroupState → Option Claim
 changed_by_leave s = if_open s.config (put_of_leave s.own)
+
+-- The state once this member forgot a name, which does nothing to its own: the record and the suspicion of the name are
+-- dropped, its slot is free, and nothing is queued about it.
+abbrev pub without_name : List ℕ → GroupState → GroupState
+without_name n s = record s {
+  members = members_forgot n s.members;
+  suspicions = without_row name_cmp suspected_name n s.suspicions;
+  queue = removed n s.queue;
+}
+
+abbrev pub forget_from_group : List ℕ → GroupState → GroupState
+forget_from_group n s = if is_same name_cmp n s.members.own then s else without_name n s
+
+-- whether a claim brings a member for which there is no room until one is forgotten
+abbrev pub needs_room_in : Claim → GroupState → Bool
+needs_room_in c s = if is_same name_cmp c.name s.own.name then false else table_needs_room s.members c
+
+-- whether no claim of so many can bring such a member: nobody is ever forgotten, or each of them has room
+abbrev pub has_room_in : ℕ → GroupState → Bool
+has_room_in count s = not (forgets_in s.config) || nat_le (length s.members.table + count) most_others
 
 -- the state once claims were applied, one after another
 abbrev pub apply_all_to_group : ℕ → Origin → List Claim → GroupState → GroupState

@@ -1,7 +1,7 @@
 //! What a claim about this member puts into the queue, and what the opening and a leave put there.
 //!
 //! Defined in: `specs/Meaning/Gossip.antt`, `specs/Meaning/Applied.antt`.
-//! Tested in: `lg_detector_tests/src/membership/queue.rt`.
+//! Tested in: `lg_parts_tests/src/membership/queue.rt`.
 ghost use Rattle.std.specs.Prelude.{◌≡◌};
 ghost use Rattle.lg_rules.specs.Support.Standing.{is_rise};
 ghost use Rattle.lg_membership.specs.Meaning.Gossip.{own_arrival, doubts, put_of_own, put_if_answered, put_if_leaves};

@@ -1,7 +1,7 @@
 //! The member table by pages, for a member that joins (push-pull).
 //!
 //! Defined in: `specs/Meaning/Pages.antt`, `specs/Meaning/Log.antt`, `specs/Meaning/Gossip.antt`.
-//! Tested in: `lg_detector_tests/src/membership/pages.rt`.
+//! Tested in: `lg_parts_tests/src/membership/pages.rt`.
 ghost use Rattle.std.specs.Prelude.{◌≡◌, ◌≤◌, [], map, option_copied};
 ghost use Rattle.arrayvec.specs.ArrayVec.{array_vec_len};
 ghost use Rattle.lg_rules.specs.Meaning.Claim.{name_of};

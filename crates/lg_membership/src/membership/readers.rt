@@ -2,7 +2,7 @@
 //!
 //! Defined in: `specs/Meaning/Log.antt`, `specs/Meaning/Gossip.antt`, `lg_rules/specs/Meaning/Table.antt`,
 //! `lg_rules/specs/Meaning/Own.antt`.
-//! Tested in: `lg_detector_tests/src/membership/claims.rt`.
+//! Tested in: `lg_parts_tests/src/membership/claims.rt`.
 ghost use Rattle.std.specs.Prelude.{◌≡◌, ◌≤◌, [], length, option_copied};
 ghost use Rattle.lg_rules.specs.Meaning.Claim.{name_of};
 ghost use Rattle.lg_rules.specs.Meaning.Own.{own_record};

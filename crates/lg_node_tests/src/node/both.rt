@@ -160,6 +160,7 @@ fn shared<'a, R, C>(
         stop,
         over: stop,
         page_heard: &noted.page_heard,
+        group: None,
         counters: &noted.counters,
         changes: &noted.changes,
         signal: None,

@@ -56,6 +56,7 @@ pub(super) fn shared<'a, R>(
         stop,
         over: stop,
         page_heard: &noted.page_heard,
+        group: None,
         counters: &noted.counters,
         changes: &noted.changes,
         signal: None,

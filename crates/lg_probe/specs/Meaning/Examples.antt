@@ -9,7 +9,7 @@ use Rattle.lg_probe.specs.Meaning.Relays.{Opened, TargetAcked, Closed, asker_at,
 use Rattle.lg_probe.specs.Meaning.Relays.{relays_after}
 use Rattle.lg_probe.specs.Meaning.Round.{RoundFact, Asked, Acked, Nacked, RoundValue, is_acked, is_first_ack, mark_of}
 use Rattle.lg_probe.specs.Meaning.Round.{nack_counts, round_of, silent_in}
-use Rattle.lg_probe.specs.Meaning.Order.{OrderFact, Joined, Left, Chose}
+use Rattle.lg_probe.specs.Meaning.Order.{OrderFact, Joined, Left, Chose, Forgot}
 use Rattle.lg_probe.specs.Meaning.Order.{EachInWindows, ever_joined, known_names, window}
 use Rattle.lg_probe.specs.Meaning.Order.{picks, choices_after, choice_after, order_after}
 
@@ -74,6 +74,16 @@ stays_over = refl
 -- a member that leaves and comes back within a cycle stays chosen in it
 comes_back : choice_after (Joined d ∷ Left d ∷ chose_c) 1 ≡ Some b
 comes_back = refl
+
+-- one that is forgotten and comes back within a cycle is a candidate again
+comes_back_anew : choice_after (Joined c ∷ Forgot c ∷ chose_c) 1 ≡ Some c
+comes_back_anew = refl
+
+known_less : known_names (order_after (Forgot c ∷ Left d ∷ chose_c)) ≡ b ∷ d ∷ []
+known_less = refl
+
+forgets_joining : ever_joined (Forgot c ∷ Left d ∷ Joined c ∷ Joined d ∷ []) ≡ d ∷ []
+forgets_joining = refl
 
 -- a member that has left is still one that ever joined, and counts once
 ever :

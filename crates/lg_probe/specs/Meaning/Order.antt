@@ -36,26 +36,31 @@ choice names cycle word = candidate word (candidates names (current_cycle names 
 abbrev pub next_cycle : List (List ℕ) → List (List ℕ) → ℕ → List (List ℕ)
 next_cycle names cycle word = option_to_list (choice names cycle word) ++ current_cycle names cycle
 
--- what happens to an order: a member joins or leaves, or one is chosen by a word
+-- what happens to an order: a member joins or leaves, one is chosen by a word, or one is forgotten
 pub data OrderFact : Type 0 where
   Joined : List ℕ → OrderFact
   Left : List ℕ → OrderFact
   Chose : ℕ → OrderFact
+  Forgot : List ℕ → OrderFact
 
--- A past has the latest fact first. These are the names that have joined and not left since, in the order of names.
+-- A past has the latest fact first. These are the names that have joined, and neither left nor were forgotten since, in
+-- the order of names.
 abbrev pub names_after : List OrderFact → List (List ℕ)
 names_after [] = []
 names_after (Joined n ∷ past) = put_key name_cmp n (names_after past)
 names_after (Left n ∷ past) = without n (names_after past)
 names_after (Chose word ∷ past) = names_after past
+names_after (Forgot n ∷ past) = without n (names_after past)
 
 -- The names chosen in the current cycle, the latest first. The cycle began with the last choice that found no
--- candidate, and the name that it chose is among them.
+-- candidate, and the name that it chose is among them. A name that is forgotten counts as chosen no longer: if it joins
+-- again, it is a candidate at once.
 abbrev pub cycle_after : List OrderFact → List (List ℕ)
 cycle_after [] = []
 cycle_after (Joined n ∷ past) = cycle_after past
 cycle_after (Left n ∷ past) = cycle_after past
 cycle_after (Chose word ∷ past) = next_cycle (names_after past) (cycle_after past) word
+cycle_after (Forgot n ∷ past) = without n (cycle_after past)
 
 -- whom a word chooses after a past
 abbrev pub choice_after : List OrderFact → ℕ → Option (List ℕ)
@@ -86,12 +91,13 @@ EachInWindows names words chosen =
     (name : List ℕ) (i : ℕ) → is_among name_cmp name names ≡ true → i + window names ≤ length words
     → is_among name_cmp name (take (window names) (drop i chosen)) ≡ true
 
--- the names that ever joined, in the order of names
+-- the names that ever joined, and weren't forgotten since, in the order of names
 abbrev pub ever_joined : List OrderFact → List (List ℕ)
 ever_joined [] = []
 ever_joined (Joined n ∷ past) = put_key name_cmp n (ever_joined past)
 ever_joined (Left n ∷ past) = ever_joined past
 ever_joined (Chose word ∷ past) = ever_joined past
+ever_joined (Forgot n ∷ past) = without n (ever_joined past)
 
 -- What an order holds: the names that have joined and not left, and those chosen in the current cycle. Each list is
 -- in the order of names.
@@ -113,6 +119,7 @@ order_with o (Left n) = record { names = without n o.names; chosen = o.chosen }
 order_with o (Chose word) =
     let chosen = put_choice (choice o.names o.chosen word) (current_cycle o.names o.chosen) in
     record { names = o.names; chosen = chosen }
+order_with o (Forgot n) = record { names = without n o.names; chosen = without n o.chosen }
 
 -- the names that an order knows: those that have joined and not left, and those chosen in the current cycle
 abbrev pub known_names : OrderValue → List (List ℕ)

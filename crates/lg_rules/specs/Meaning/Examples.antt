@@ -1,5 +1,5 @@
 -- Worked rows: what the definitions give for some claims.
-use Rattle.std.specs.Prelude.{◌≡◌, ℕ, ◌+◌, Bool, true, false, List, [], ◌∷◌, ◌++◌, map, Some, None, refl}
+use Rattle.std.specs.Prelude.{◌≡◌, ℕ, ◌+◌, Bool, true, false, List, [], ◌∷◌, ◌++◌, map, Some, refl}
 use Rattle.lg_rules.specs.declared.addr.Addr.{Addr}
 use Rattle.lg_rules.specs.declared.addr.Ip.TheVariants.{V4}
 use Rattle.lg_rules.specs.declared.claim.Claim.{Claim}
@@ -9,10 +9,8 @@ use Rattle.lg_rules.specs.declared.members.Heard.TheVariants.{Accused, Ignored}
 use Rattle.lg_rules.specs.declared.own.OwnHeard.TheVariants.{Raised, Ignored as Unheeded}
 use Rattle.lg_rules.specs.Meaning.Beats.{beats_of}
 use Rattle.lg_rules.specs.Meaning.Own.{OwnValue, OwnFact, Told, TakesLeave, own_hearing, own_of, own_record}
-use Rattle.lg_rules.specs.Meaning.Own.{claims_told}
 use Rattle.lg_rules.specs.Meaning.View.{view_of, changed}
-use Rattle.lg_rules.specs.Meaning.Table.{record_of, roster, table_of, takes, hearing_of}
-use Rattle.lg_rules.specs.Meaning.Table.{names_by_slot, names_heard, slot_in}
+use Rattle.lg_rules.specs.Meaning.Table.{story, record_of, roster, table_of, takes, hearing_of}
 
 -- the letters that name the members
 abbrev pub a : ℕ
@@ -79,56 +77,29 @@ suspected_above_failed = refl
 -- What b hears, the latest first. c is suspected twice at 4, and refutes that at 5. d is alive at 3, fails there, and
 -- comes back at 7. b itself is suspected.
 pub standing_claims :
-    table_of (b ∷ [])
+    table_of false (b ∷ [])
+    (map Told
     (on c Alive 5 ∷ on c Alive 4 ∷ on b (accused_by d) 0 ∷ on c (accused_by e) 4 ∷ on d Alive 7
-    ∷ on d Failed 3 ∷ on c (accused_by a) 4 ∷ on d Alive 3 ∷ on c Alive 4 ∷ on a Alive 0 ∷ [])
+    ∷ on d Failed 3 ∷ on c (accused_by a) 4 ∷ on d Alive 3 ∷ on c Alive 4 ∷ on a Alive 0 ∷ []))
     ≡ on a Alive 0 ∷ on c Alive 5 ∷ on d Alive 7 ∷ []
-unfolding table_of record_of roster
+unfolding table_of record_of story roster
 standing_claims = refl
 
 -- before c refutes, the claim of the first accuser stands
 pub first_accuser :
-    record_of (on c Alive 4 ∷ on c (accused_by e) 4 ∷ on c (accused_by a) 4 ∷ on c Alive 4 ∷ []) (c ∷ [])
+    record_of false (b ∷ [])
+    (map Told (on c Alive 4 ∷ on c (accused_by e) 4 ∷ on c (accused_by a) 4 ∷ on c Alive 4 ∷ [])) (c ∷ [])
     ≡ Some (on c (accused_by a) 4)
-unfolding record_of
+unfolding record_of story roster
 first_accuser = refl
 
-pub not_cleared : hearing_of (on c (accused_by a) 4 ∷ []) (on c Alive 4) ≡ Ignored
+pub not_cleared : hearing_of false (on c (accused_by a) 4 ∷ []) (on c Alive 4) ≡ Ignored
 unfolding takes
 not_cleared = refl
 
-pub accused_again : hearing_of (on c (accused_by a) 4 ∷ []) (on c (accused_by e) 4) ≡ Accused
+pub accused_again : hearing_of false (on c (accused_by a) 4 ∷ []) (on c (accused_by e) 4) ≡ Accused
 unfolding takes
 accused_again = refl
-
--- b hears of c, then of a, of c again, of itself, and of e: c has slot 1, a has 2, and e has 3
-abbrev pub names_of_b : List (List ℕ)
-names_of_b = (b ∷ []) ∷ (c ∷ []) ∷ (a ∷ []) ∷ (e ∷ []) ∷ []
-
-pub by_appearance :
-    names_by_slot (b ∷ [])
-    (on e Alive 0 ∷ on b (accused_by a) 0 ∷ on c (accused_by a) 4 ∷ on a Alive 0 ∷ on c Alive 4 ∷ [])
-    ≡ names_of_b
-unfolding names_by_slot
-by_appearance = refl
-
-pub own_slot : slot_in (b ∷ []) names_of_b ≡ Some 0
-own_slot = refl
-
-pub slot_of_the_first : slot_in (c ∷ []) names_of_b ≡ Some 1
-slot_of_the_first = refl
-
-pub slot_of_the_last : slot_in (e ∷ []) names_of_b ≡ Some 3
-slot_of_the_last = refl
-
-pub no_slot : slot_in (d ∷ []) names_of_b ≡ None
-no_slot = refl
-
-pub keeps_the_slots : names_heard names_of_b (on a Failed 0) ≡ names_of_b
-keeps_the_slots = refl
-
-pub gets_the_next_slot : slot_in (d ∷ []) (names_heard names_of_b (on d Alive 0)) ≡ Some 4
-gets_the_next_slot = refl
 
 -- b is at 127.0.0.1:7000
 abbrev pub b_at : Addr
@@ -275,19 +246,19 @@ left_and_about_another = refl
 
 -- the member table of b after a past
 abbrev pub members_of_b : List OwnFact → List Claim
-members_of_b past = view_of (own_record (own_of (b ∷ []) b_at past)) (table_of (b ∷ []) (claims_told past))
+members_of_b past = view_of (own_record (own_of (b ∷ []) b_at past)) (table_of false (b ∷ []) past)
 
 -- b knows that c is alive at 2. It hears that c is alive at 3, then that c is alive at 2, then that b is suspected.
 pub changed_rows :
     changed (members_of_b (Told (on c Alive 2) ∷ []))
     (members_of_b (map Told (on b (accused_by a) 0 ∷ on c Alive 2 ∷ on c Alive 3 ∷ on c Alive 2 ∷ [])))
     ≡ record { name = b ∷ []; addr = b_at; status = Alive; incarnation = 1 } ∷ on c Alive 3 ∷ []
-unfolding own_of table_of record_of roster
+unfolding own_of table_of record_of story roster
 changed_rows = refl
 
 -- b knows that c is alive at 2, and leaves
 pub leaving_changes_the_own_row :
     changed (members_of_b (Told (on c Alive 2) ∷ [])) (members_of_b (TakesLeave ∷ Told (on c Alive 2) ∷ []))
     ≡ record { name = b ∷ []; addr = b_at; status = Left; incarnation = 0 } ∷ []
-unfolding own_of table_of record_of roster
+unfolding own_of table_of record_of story roster
 leaving_changes_the_own_row = refl

@@ -22,9 +22,10 @@ pub record OwnValue : Type 0 where
   pub ousted : Bool
   pub left : Bool
 
--- what happens to a member: a claim about anyone is told to it, or it leaves
+-- what happens to a member: a claim about anyone is told to it, it forgets a name, or it leaves
 pub data OwnFact : Type 0 where
   Told : Claim → OwnFact
+  Forgets : List ℕ → OwnFact
   TakesLeave : OwnFact
 
 -- What a claim about this member does while it hasn't left, by the claim's status, its incarnation i and this member's
@@ -71,15 +72,17 @@ own_heard me c = oneself_changed (own_hearing me c) c.incarnation me
 abbrev pub own_left : OwnValue → OwnValue
 own_left me = record me { left = true }
 
--- this member after facts that all count for it, from incarnation 0 on
+-- this member after facts, from incarnation 0 on
 abbrev pub own_after : List ℕ → Addr → List OwnFact → OwnValue
 own_after name addr [] = record { name = name; addr = addr; number = 0; ousted = false; left = false }
 own_after name addr (Told c ∷ past) = own_heard (own_after name addr past) c
+own_after name addr (Forgets n ∷ past) = own_after name addr past
 own_after name addr (TakesLeave ∷ past) = own_left (own_after name addr past)
 
 -- whether a fact counts for a member of this name: it leaves, or a claim about it is told
 abbrev pub is_own_fact : List ℕ → OwnFact → Bool
 is_own_fact name (Told c) = is_same name_cmp c.name name
+is_own_fact name (Forgets n) = false
 is_own_fact name TakesLeave = true
 
 -- this member after a past, in which only what counts for it does anything
@@ -89,6 +92,7 @@ own_of name addr past = own_after name addr (filter (is_own_fact name) past)
 -- the claims that are told in a past
 abbrev pub claim_told : OwnFact → Option Claim
 claim_told (Told c) = Some c
+claim_told (Forgets n) = None
 claim_told TakesLeave = None
 
 abbrev pub claims_told : List OwnFact → List Claim

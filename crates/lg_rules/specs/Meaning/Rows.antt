@@ -53,6 +53,10 @@ module _ {K : Type 0} (cmp : K → K → Ordering) where
   abbrev pub put_key : K → List K → List K
   put_key n ns = put_row (λ m. m) n ns
 
+  -- the keys but this one
+  abbrev pub without_key : K → List K → List K
+  without_key n ns = without_row (λ m. m) n ns
+
   -- these keys in rising order, each once
   abbrev pub in_order : List K → List K
   in_order [] = []

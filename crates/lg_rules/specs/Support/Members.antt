@@ -1,6 +1,6 @@
 -- What a table of members holds: its rows are in the order of names, those that aren't gone are counted, and the
 -- names have their slots.
-use Rattle.std.specs.Prelude.{ℕ, ◌≡◌, length, map, take, List}
+use Rattle.std.specs.Prelude.{ℕ, ◌≡◌, map, List}
 use Rattle.lg_rules.specs.declared.claim.Claim.{Claim}
 use Rattle.lg_rules.specs.declared.claim.Status.{Status}
 use Rattle.lg_rules.specs.declared.claim.Status.TheVariants.{Alive, Suspect, Failed, Left}
@@ -15,7 +15,7 @@ pub record AreCounted (records : List Claim) (live : ℕ) : Type 0 where
 
 pub record AreKept (own : List ℕ) (records : List Claim) (live : ℕ) (slots indexes : List ℕ) : Type 0 where
   pub rows : AreCounted records live
-  pub names : AreNumbered own (map name_of records) slots (take (length (map name_of records)) indexes)
+  pub names : AreNumbered own (map name_of records) slots indexes
 
 -- what a record adds to the number of members that aren't gone
 abbrev pub live_weight : Status → ℕ

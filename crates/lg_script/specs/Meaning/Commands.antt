@@ -1,12 +1,13 @@
 -- What the words after the name of a command say. It is None if one of them is out of its form or range.
-use Rattle.std.specs.Prelude.{ℕ, List, [], Option, Some, slice_index_or, drop}
+use Rattle.std.specs.Prelude.{ℕ, List, [], Option, Some, codes, slice_index_or, drop, if◌then◌else◌}
+use Rattle.std.specs.Str.{bytes_eq}
 use Rattle.lg_timing.specs.Meaning.Keys.{key_named}
 use Rattle.lg_text.specs.Meaning.Names.{member_name_of}
 use Rattle.lg_text.specs.Meaning.Numbers.{number_of, port_of}
 use Rattle.lg_text.specs.Meaning.Steps.{◌>>=◌}
 use Rattle.lg_script.specs.Meaning.Values.{moment_of, random_words_of, seeds_of}
 use Rattle.lg_script.specs.declared.command.Command.{Command}
-use Rattle.lg_script.specs.declared.command.Command.TheVariants.{Set, Open, Tick, Deliver}
+use Rattle.lg_script.specs.declared.command.Command.TheVariants.{Set, SetGroup, Open, Tick, Deliver}
 use Rattle.lg_script.specs.declared.command.Command.TheVariants.{Ask, Health, Pull, Leave, Table}
 use Rattle.lg_script.specs.declared.verb.Verb.{Verb}
 use Rattle.lg_script.specs.declared.verb.Verb.TheVariants as verb
@@ -15,12 +16,24 @@ use Rattle.lg_script.specs.declared.verb.Verb.TheVariants as verb
 abbrev pub word_at : List (List ℕ) → ℕ → List ℕ
 word_at words place = slice_index_or words place []
 
--- set KEY NUMBER
-unfoldable pub set_command : List (List ℕ) → Option Command
-set_command words = do
-  key ← key_named (word_at words 0)
-  number ← number_of (word_at words 1)
+-- set KEY NUMBER, by its words
+abbrev pub number_setting : List ℕ → List ℕ → Option Command
+number_setting key_word number_word = do
+  key ← key_named key_word
+  number ← number_of number_word
   Some (Set key number)
+
+-- set group NAME, by its name
+abbrev pub group_setting : List ℕ → Option Command
+group_setting word = do
+  group ← member_name_of word
+  Some (SetGroup group)
+
+-- set KEY NUMBER, or set group NAME
+unfoldable pub set_command : List (List ℕ) → Option Command
+set_command words =
+    if bytes_eq (word_at words 0) (codes "group") then group_setting (word_at words 1)
+    else number_setting (word_at words 0) (word_at words 1)
 
 -- open NAME PORT MOMENT SEED..
 unfoldable pub open_command : List (List ℕ) → Option Command

@@ -5,9 +5,9 @@ use Rattle.std.specs.List.{flat_map}
 use Rattle.lg_rules.specs.declared.addr.Ip.TheVariants.{V4}
 use Rattle.lg_timing.specs.declared.config.Seed.{Seed}
 use Rattle.lg_script.specs.declared.command.Command.{Command}
-use Rattle.lg_script.specs.declared.command.Command.TheVariants.{Set, Open, Tick, Deliver}
+use Rattle.lg_script.specs.declared.command.Command.TheVariants.{Set, SetGroup, Open, Tick, Deliver}
 use Rattle.lg_script.specs.declared.command.Command.TheVariants.{Ask, Health, Pull, Leave, Table}
-use Rattle.lg_timing.specs.declared.keys.Key.TheVariants.{IntervalMs, Lambda, HistoryLimit, Wire}
+use Rattle.lg_timing.specs.declared.keys.Key.TheVariants.{IntervalMs, Lambda, HistoryLimit, Wire, ForgetMs, First}
 use Rattle.lg_script.specs.declared.fault.ScriptFault.{ScriptFault}
 use Rattle.lg_script.specs.declared.fault.ScriptFault.TheVariants as fault
 use Rattle.lg_text.specs.Meaning.Cutting.{before, behind}
@@ -35,9 +35,31 @@ set-history : command_of (codes "set history_limit 9999999999999999") ≡ gives 
 unfolding command_of verb_of set_command
 set-history = refl
 
+set-forget : command_of (codes "set forget_ms 86400000") ≡ gives (Set ForgetMs 86400000)
+unfolding command_of verb_of set_command
+set-forget = refl
+
 set-wire : command_of (codes "set wire 2") ≡ gives (Set Wire 2)
 unfolding command_of verb_of set_command
 set-wire = refl
+
+-- its range is judged when a member is opened
+set-first : command_of (codes "set first 4294967296") ≡ gives (Set First 4294967296)
+unfolding command_of verb_of set_command
+set-first = refl
+
+set-group : command_of (codes "set group grn") ≡ gives (SetGroup (codes "grn"))
+unfolding command_of verb_of set_command
+set-group = refl
+
+-- a name may be a number
+set-group-of-digits : command_of (codes "set group 1") ≡ gives (SetGroup (codes "1"))
+unfolding command_of verb_of set_command
+set-group-of-digits = refl
+
+set-group-of-32 : command_of (codes "set group " ++ replicate 32 110) ≡ gives (SetGroup (replicate 32 110))
+unfolding command_of verb_of set_command
+set-group-of-32 = refl
 
 opens-alone : command_of (codes "open a 7001 0") ≡ gives (Open (97 ∷ []) 7001 0 record { items = [] })
 unfolding command_of verb_of open_command
@@ -186,6 +208,14 @@ space-before-leave : command_of (codes " leave a 0") ≡ Err fault.Words
 unfolding command_of verb_of
 space-before-leave = refl
 
+set-without-group : command_of (codes "set group") ≡ Err fault.Words
+unfolding command_of verb_of
+set-without-group = refl
+
+set-of-two-groups : command_of (codes "set group g h") ≡ Err fault.Words
+unfolding command_of verb_of
+set-of-two-groups = refl
+
 open-without-moment : command_of (codes "open a 7001") ≡ Err fault.Words
 unfolding command_of verb_of
 open-without-moment = refl
@@ -265,6 +295,22 @@ seeds-16 = refl
 unknown-key : command_of (codes "set seeds 1") ≡ Err fault.Value
 unfolding command_of verb_of set_command
 unknown-key = refl
+
+signed-first : command_of (codes "set first -1") ≡ Err fault.Value
+unfolding command_of verb_of set_command
+signed-first = refl
+
+bad-byte-in-group : command_of (codes "set group g!") ≡ Err fault.Value
+unfolding command_of verb_of set_command
+bad-byte-in-group = refl
+
+group-of-33 : command_of (codes "set group " ++ replicate 33 110) ≡ Err fault.Value
+unfolding command_of verb_of set_command
+group-of-33 = refl
+
+capital-of-group : command_of (codes "set Group g") ≡ Err fault.Value
+unfolding command_of verb_of set_command
+capital-of-group = refl
 
 tab-in-word : command_of (codes "table a" ++ 9 ∷ []) ≡ Err fault.Value
 unfolding command_of verb_of table_command

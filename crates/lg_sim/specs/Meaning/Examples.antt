@@ -17,8 +17,9 @@ use Rattle.lg_script.specs.Meaning.Lines.{command_of}
 use Rattle.lg_script.specs.Meaning.Values.{local}
 use Rattle.lg_script.specs.Meaning.Words.{verb_of}
 use Rattle.lg_script.specs.declared.command.Command.{Command}
-use Rattle.lg_script.specs.declared.command.Command.TheVariants.{Set, Open, Tick, Deliver, Health, Pull, Leave, Table}
-use Rattle.lg_timing.specs.declared.keys.Key.TheVariants.{Alpha, Beta, IntervalMs}
+use Rattle.lg_script.specs.declared.command.Command.TheVariants.{Set, SetGroup, Open, Tick, Deliver}
+use Rattle.lg_script.specs.declared.command.Command.TheVariants.{Health, Pull, Leave, Table}
+use Rattle.lg_timing.specs.declared.keys.Key.TheVariants.{Alpha, Beta, IntervalMs, ForgetMs, First, Wire}
 use Rattle.lg_script.specs.declared.fault.ScriptFault.TheVariants as fault
 use Rattle.lg_text.specs.Meaning.Lines.{newline}
 use Rattle.lg_text.specs.declared.end.RunEnd.TheVariants.{Done, Faulty}
@@ -65,6 +66,19 @@ set-between : happenings (open-b ∷ Set Beta 5 ∷ open-a ∷ [])
     ≡ record { member = member-b; event = event.Open 0 (opening_config b 7002 no-seeds (record unset { beta = 5 })) }
     ∷ record { member = member-a; event = event.Open 0 (opening_config a 7001 no-seeds unset) } ∷ []
 set-between = refl
+
+latest-group-counts :
+    settings (SetGroup (codes "g") ∷ Set Wire 3 ∷ SetGroup (codes "h") ∷ [])
+    ≡ record unset { wire = 3; group = Some (codes "g") }
+latest-group-counts = refl
+
+group-between : happenings (open-b ∷ SetGroup (codes "g") ∷ open-a ∷ [])
+    ≡ record {
+      member = member-b;
+      event = event.Open 0 (opening_config b 7002 no-seeds (record unset { group = Some (codes "g") }));
+    }
+    ∷ record { member = member-a; event = event.Open 0 (opening_config a 7001 no-seeds unset) } ∷ []
+group-between = refl
 
 -- ---- members
 
@@ -186,6 +200,20 @@ unmade : command_fault (Open a 7001 0 no-seeds) (Set IntervalMs 5 ∷ open-a ∷
 unfolding check_of
 unmade = refl
 
+-- the first number of a probe is 1 at least, and one that four bytes hold
+first-numbers :
+    map (λ number. command_fault open-a (Set First number ∷ [])) (0 ∷ 1 ∷ 4294967295 ∷ 4294967296 ∷ [])
+    ≡ Some fault.Value ∷ None ∷ None ∷ Some fault.Value ∷ []
+unfolding check_of
+first-numbers = refl
+
+-- a member of a group sends packets of version 3
+groups-by-version :
+    map (λ wire. command_fault open-a (Set Wire wire ∷ SetGroup (codes "g") ∷ [])) (1 ∷ 2 ∷ 3 ∷ [])
+    ≡ Some fault.Value ∷ Some fault.Value ∷ None ∷ []
+unfolding check_of
+groups-by-version = refl
+
 name-taken : command_fault (Open a 7003 0 no-seeds) (open-a ∷ []) ≡ Some fault.Double
 unfolding check_of
 name-taken = refl
@@ -226,10 +254,16 @@ never-sent = refl
 set-is-never-faulty : command_fault (Set IntervalMs 5) [] ≡ None
 set-is-never-faulty = refl
 
+set-group-is-never-faulty : command_fault (SetGroup (codes "g")) [] ≡ None
+set-group-is-never-faulty = refl
+
 -- ---- texts
 
 nothing-said : text_of (Set Beta 99) (open-a ∷ []) ≡ []
 nothing-said = refl
+
+nothing-said-of-group : text_of (SetGroup (codes "g")) (open-a ∷ []) ≡ []
+nothing-said-of-group = refl
 
 opening-said : text_of open-a [] ≡ codes "next 0" ++ newline
 unfolding detecting reporting
@@ -251,6 +285,20 @@ second-leave-said : text_of (Leave a 5 (words 0 0)) (Leave a 0 (words 0 0) ∷ o
     ≡ codes "next 0" ++ newline
 unfolding open-a-with-b detecting reporting
 second-leave-said = refl
+
+-- b leaves at 0, and a, which hears of it by the first packet, forgets it a second later, behind a start of a round
+open-b-with-a : Command
+open-b-with-a = Open b 7002 0 record { items = record { name = a; addr = local 7001 } ∷ [] }
+
+tick-a-later : Command
+tick-a-later = Tick a 1000 (words 0 0)
+
+forgetting-said :
+    text_of tick-a-later
+    (tick-a-later ∷ Deliver 1 0 ∷ Leave b 0 (words 0 0) ∷ open-b-with-a ∷ open-a-with-b ∷ Set ForgetMs 1000 ∷ [])
+    ≡ codes "fired forget b" ++ newline ++ codes "forgot b" ++ newline ++ codes "next 2000" ++ newline
+unfolding open-a-with-b open-b-with-a tick-a-later detecting reporting
+forgetting-said = refl
 
 nobody-said : happening_text None [] ≡ codes "nobody" ++ newline
 nobody-said = refl

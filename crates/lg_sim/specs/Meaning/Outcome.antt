@@ -24,7 +24,7 @@ use Rattle.lg_lines.specs.Meaning.Records.{table_text}
 use Rattle.lg_lines.specs.Meaning.Replies.{reply_text}
 use Rattle.lg_text.specs.Meaning.Lines.{newline}
 use Rattle.lg_script.specs.declared.command.Command.{Command}
-use Rattle.lg_script.specs.declared.command.Command.TheVariants.{Set, Open, Tick, Deliver}
+use Rattle.lg_script.specs.declared.command.Command.TheVariants.{Set, SetGroup, Open, Tick, Deliver}
 use Rattle.lg_script.specs.declared.command.Command.TheVariants.{Ask, Health, Pull, Leave, Table}
 use Rattle.lg_script.specs.declared.fault.ScriptFault.{ScriptFault}
 use Rattle.lg_script.specs.declared.fault.ScriptFault.TheVariants as fault
@@ -37,15 +37,15 @@ abbrev pub most_opened : ℕ
 most_opened = 16
 
 -- whether a member of this name or at this address is open
-abbrev pub is_taken : Config → List Member → Bool
-is_taken config members =
+abbrev pub is_in_use : Config → List Member → Bool
+is_in_use config members =
     is_some (member_named config.name members) || is_some (member_at config.addr members)
 
 -- why a member can't be opened with a configuration: the first of three faults that applies, if one does
 abbrev pub opening_fault : Config → List Member → Option ScriptFault
 opening_fault config members =
     if is_err (check_of config) then Some fault.Value
-    else (if is_taken config members then Some fault.Double
+    else (if is_in_use config members then Some fault.Double
     else (if nat_le most_opened (length members) then Some fault.Full else None))
 
 -- the fault of a command for a name that isn't open
@@ -59,6 +59,7 @@ packet_fault k past = if is_some (packet_number k (sent past)) then None else So
 -- why a command can't be carried out after the earlier ones, if it can't
 abbrev pub command_fault : Command → List Command → Option ScriptFault
 command_fault (Set key number) before = None
+command_fault (SetGroup group) before = None
 command_fault (Open name port now seeds) before =
     opening_fault (opening_config name port seeds (settings before)) (opened before)
 command_fault (Tick name now words) before = naming_fault name (opened before)
@@ -79,5 +80,6 @@ happening_text (Some h) past =
 -- what a command writes, if it can be carried out after the earlier ones
 abbrev pub text_of : Command → List Command → List ℕ
 text_of (Set key number) before = []
+text_of (SetGroup group) before = []
 text_of (Table name) before = table_text (view_after (events_of name (happenings before)))
 text_of command before = happening_text (happening_of command before) (happenings before)

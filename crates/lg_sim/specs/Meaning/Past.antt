@@ -14,7 +14,7 @@ use Rattle.lg_detector.specs.declared.event.Event.{Event}
 use Rattle.lg_detector.specs.declared.event.Event.TheVariants as event
 use Rattle.lg_script.specs.Meaning.Values.{local}
 use Rattle.lg_script.specs.declared.command.Command.{Command}
-use Rattle.lg_script.specs.declared.command.Command.TheVariants.{Set, Open, Tick, Deliver}
+use Rattle.lg_script.specs.declared.command.Command.TheVariants.{Set, SetGroup, Open, Tick, Deliver}
 use Rattle.lg_script.specs.declared.command.Command.TheVariants.{Ask, Health, Pull, Leave, Table}
 use Rattle.lg_sim.specs.Meaning.Members.{Happening, member_at, member_named, packet_number, sent}
 use Rattle.lg_sim.specs.declared.host.Member.{Member}
@@ -24,15 +24,20 @@ use Rattle.lg_sim.specs.declared.host.SentPacket.{SentPacket}
 abbrev pub unset : Config
 unset = defaults (97 ∷ []) (record { ip = V4 (0 ∷ 0 ∷ 0 ∷ 0 ∷ []); port = 0 })
 
--- the numbers for the members that are opened next: the defaults, changed by the latest `set` of each key
+-- a configuration of a member of a group
+abbrev pub in_group : List ℕ → Config → Config
+in_group group usual = record usual { group = Some group }
+
+-- the numbers and the group of the members that are opened next: the defaults, changed by the latest `set` of each key
 abbrev pub settings : List Command → Config
 settings [] = unset
 settings (Set key number ∷ before) = with_number key number (settings before)
+settings (SetGroup group ∷ before) = in_group group (settings before)
 settings (_ ∷ before) = settings before
 
--- the configuration of a member that is opened with these numbers
+-- the configuration of a member that is opened with these numbers and this group
 abbrev pub opening_config : List ℕ → ℕ → ArrayVec Seed → Config → Config
-opening_config name port seeds numbers = record numbers { seeds = seeds; name = name; addr = local port }
+opening_config name port seeds usual = record usual { seeds = seeds; name = name; addr = local port }
 
 abbrev pub new_member : List ℕ → ℕ → Member
 new_member name port = record { name = name; addr = local port }
@@ -60,6 +65,7 @@ delivered now (Some packet) members =
 -- what a command makes happen, after the earlier ones and what they made happen
 abbrev pub happening_after : Command → List Command → List Happening → Option Happening
 happening_after (Set key number) before past = None
+happening_after (SetGroup group) before past = None
 happening_after (Open name port now seeds) before past = Some record {
   member = new_member name port;
   event = event.Open now (opening_config name port seeds (settings before));

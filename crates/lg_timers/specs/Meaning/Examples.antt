@@ -9,6 +9,7 @@ use Rattle.lg_timers.specs.declared.timer.TimerId.TheVariants.{
   RelayNack,
   RelayEnd,
   RoundStart,
+  Forget,
   Gossip,
 }
 use Rattle.lg_timers.specs.Meaning.Timers.{is_set, in_turn, due_of, without_timer, timers_left}
@@ -19,10 +20,12 @@ at deadline id = record { deadline = deadline; id = id }
 -- they fire by deadline, then by kind, then by name or number
 in_their_order :
     in_turn
-    (at 9 Gossip ∷ at 9 RoundStart ∷ at 9 (RelayEnd 7) ∷ at 9 (RelayEnd 6) ∷ at 9 (RelayNack 8)
+    (at 9 Gossip ∷ at 9 (Forget (99 ∷ [])) ∷ at 9 (Forget (98 ∷ [])) ∷ at 9 RoundStart ∷ at 9 (RelayEnd 7)
+    ∷ at 9 (RelayEnd 6) ∷ at 9 (RelayNack 8)
     ∷ at 9 (Suspicion (98 ∷ 97 ∷ [])) ∷ at 9 (Suspicion (98 ∷ [])) ∷ at 9 RoundEnd ∷ at 8 Direct ∷ [])
     ≡ at 8 Direct ∷ at 9 RoundEnd ∷ at 9 (Suspicion (98 ∷ [])) ∷ at 9 (Suspicion (98 ∷ 97 ∷ []))
-    ∷ at 9 (RelayNack 8) ∷ at 9 (RelayEnd 6) ∷ at 9 (RelayEnd 7) ∷ at 9 RoundStart ∷ at 9 Gossip ∷ []
+    ∷ at 9 (RelayNack 8) ∷ at 9 (RelayEnd 6) ∷ at 9 (RelayEnd 7) ∷ at 9 RoundStart ∷ at 9 (Forget (98 ∷ []))
+    ∷ at 9 (Forget (99 ∷ [])) ∷ at 9 Gossip ∷ []
 unfolding in_turn
 in_their_order = refl
 
@@ -58,6 +61,16 @@ another_kind_is_not_set = refl
 
 gossip_is_not_a_round_start : is_set Gossip (at 9 RoundStart ∷ []) ≡ false
 gossip_is_not_a_round_start = refl
+
+-- a suspicion of a member and the forgetting of it are two timers, and so are the forgettings of two members
+a_suspicion_is_not_a_forgetting : is_set (Suspicion (98 ∷ [])) (at 9 (Forget (98 ∷ [])) ∷ []) ≡ false
+a_suspicion_is_not_a_forgetting = refl
+
+another_name_is_not_forgotten :
+    timers_left (due_of 9 (at 9 (Forget (98 ∷ [])) ∷ at 9 (Forget (99 ∷ [])) ∷ []))
+    (at 9 (Forget (98 ∷ [])) ∷ at 9 (Forget (99 ∷ [])) ∷ [])
+    ≡ at 9 (Forget (99 ∷ [])) ∷ []
+another_name_is_not_forgotten = refl
 
 no_end_left : is_set (RelayEnd 1) (timers_left (Some (at 9 (RelayEnd 1))) of_a_relay) ≡ false
 no_end_left = refl

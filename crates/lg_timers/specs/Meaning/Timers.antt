@@ -3,6 +3,7 @@ use Rattle.std.specs.Prelude.{
   ℕ,
   Bool,
   true,
+  false,
   not,
   ◌&&◌,
   List,
@@ -26,6 +27,7 @@ use Rattle.lg_timers.specs.declared.timer.TimerId.TheVariants.{
   RelayNack,
   RelayEnd,
   RoundStart,
+  Forget,
   Gossip,
 }
 
@@ -37,7 +39,8 @@ kind_number Direct = 3
 kind_number (RelayNack number) = 4
 kind_number (RelayEnd number) = 5
 kind_number RoundStart = 6
-kind_number Gossip = 7
+kind_number (Forget member) = 7
+kind_number Gossip = 8
 
 -- whom a timer is about: the bytes of its member's name, or its relay's number; nothing for the timers of a round and
 -- for that of gossip
@@ -48,6 +51,7 @@ subject_of Direct = []
 subject_of (RelayNack number) = number ∷ []
 subject_of (RelayEnd number) = number ∷ []
 subject_of RoundStart = []
+subject_of (Forget member) = member
 subject_of Gossip = []
 
 -- an id as a list of numbers
@@ -99,6 +103,14 @@ is_due now t = nat_le t.deadline now
 -- the first of the timers that are due, if any is
 abbrev pub due_of : ℕ → List Timer → Option Timer
 due_of now timers = least_of (filter (is_due now) timers)
+
+-- whether a timer forgets a member; and of timers in the order in which they fire, the first that does, if any is set
+abbrev pub is_forget : TimerId → Bool
+is_forget (Forget member) = true
+is_forget _ = false
+
+abbrev pub first_forget : List Timer → Option Timer
+first_forget timers = least_of (filter (λ t. is_forget t.id) timers)
 
 -- the timers that are left once this one was taken out, or all of them if none was
 abbrev pub timers_left : Option Timer → List Timer → List Timer

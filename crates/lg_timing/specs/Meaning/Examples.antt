@@ -1,9 +1,10 @@
 -- Worked rows: what the definitions give for some numbers.
-use Rattle.std.specs.Prelude.{◌≡◌, ℕ, pos, negsuc, List, [], ◌∷◌, map, Result, Ok, Err, refl}
+use Rattle.std.specs.Prelude.{◌≡◌, ℕ, pos, negsuc, List, [], ◌∷◌, map, Option, Some, None, Result, Ok, Err, refl}
 use Rattle.lg_rules.specs.declared.addr.Ip.TheVariants.{V4}
 use Rattle.lg_timing.specs.declared.config.Config.{Config}
 use Rattle.lg_timing.specs.declared.config.ConfigFault.{ConfigFault}
-use Rattle.lg_timing.specs.declared.config.ConfigFault.TheVariants.{History, Seeds, Wire, GossipMs, GossipTo}
+use Rattle.lg_timing.specs.declared.config.ConfigFault.TheVariants.{History, Interval, Seeds, Wire, Forget}
+use Rattle.lg_timing.specs.declared.config.ConfigFault.TheVariants.{First, GossipMs, GossipTo, Group}
 use Rattle.lg_timing.specs.Meaning.Config.{check_of, defaults}
 use Rattle.lg_timing.specs.Meaning.Score.{score_of}
 use Rattle.lg_timing.specs.Meaning.Tables.{log10_of, ratio_of}
@@ -125,3 +126,69 @@ version_before_gossip = refl
 time_before_members : gossip_checked 1 1 0 (99 ∷ []) ≡ Err GossipMs
 unfolding check_of
 time_before_members = refl
+
+-- what a check returns for the member b with an interval, a version of packets, a time after which members that are
+-- gone are forgotten, a time before the first gossip, and a number of members that a gossip goes to
+abbrev forget_checked : ℕ → ℕ → ℕ → ℕ → ℕ → Result (Unit {0}) ConfigFault
+forget_checked interval wire forget wait members =
+    let usual = defaults (98 ∷ []) (record { ip = V4 (127 ∷ 0 ∷ 0 ∷ 1 ∷ []); port = 7946 }) in
+    check_of (record usual {
+      interval_ms = interval;
+      wire = wire;
+      forget_ms = forget;
+      gossip_ms = wait;
+      gossip_to = members;
+    })
+
+-- 0 is that nothing is forgotten, the least other time is a second, and the greatest is thirty days
+forget_times :
+    map (λ forget. forget_checked 1000 3 forget 200 3) (0 ∷ 1 ∷ 999 ∷ 1000 ∷ 2592000000 ∷ 2592000001 ∷ [])
+    ≡ Ok tt ∷ Err Forget ∷ Err Forget ∷ Ok tt ∷ Ok tt ∷ Err Forget ∷ []
+unfolding check_of
+forget_times = refl
+
+-- the interval and the version are judged before the time of forgetting, and the numbers of gossip behind it
+interval_before_forget : forget_checked 9 3 1 200 3 ≡ Err Interval
+unfolding check_of
+interval_before_forget = refl
+
+version_before_forget : forget_checked 1000 4 1 200 3 ≡ Err Wire
+unfolding check_of
+version_before_forget = refl
+
+forget_before_gossip : forget_checked 1000 3 1 1 0 ≡ Err Forget
+unfolding check_of
+forget_before_gossip = refl
+
+-- what a check returns for the member b with a version of packets, a number of members that a gossip goes to, a first
+-- number and a group
+abbrev named_checked : ℕ → ℕ → ℕ → Option (List ℕ) → Result (Unit {0}) ConfigFault
+named_checked wire members number named =
+    let usual = defaults (98 ∷ []) (record { ip = V4 (127 ∷ 0 ∷ 0 ∷ 1 ∷ []); port = 7946 }) in
+    check_of (record usual { wire = wire; gossip_to = members; first = number; group = named })
+
+-- the first number is 1 at least, and one that four bytes hold
+first_numbers :
+    map (λ number. named_checked 1 3 number None) (0 ∷ 1 ∷ 4294967295 ∷ 4294967296 ∷ [])
+    ≡ Err First ∷ Ok tt ∷ Ok tt ∷ Err First ∷ []
+unfolding check_of
+first_numbers = refl
+
+-- a member of a group sends packets of version 3
+groups_by_version :
+    map (λ wire. named_checked wire 3 1 (Some (103 ∷ []))) (1 ∷ 2 ∷ 3 ∷ []) ≡ Err Group ∷ Err Group ∷ Ok tt ∷ []
+unfolding check_of
+groups_by_version = refl
+
+-- the version and the members of a gossip are judged before the first number, and this before the group
+members_before_first : named_checked 3 0 0 None ≡ Err GossipTo
+unfolding check_of
+members_before_first = refl
+
+first_before_group : named_checked 1 3 0 (Some (103 ∷ [])) ≡ Err First
+unfolding check_of
+first_before_group = refl
+
+version_before_group : named_checked 4 3 1 (Some (103 ∷ [])) ≡ Err Wire
+unfolding check_of
+version_before_group = refl

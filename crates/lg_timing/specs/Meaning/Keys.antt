@@ -1,7 +1,7 @@
 -- The keys of a configuration's numbers: their names, ranges, defaults and faults, and the default configuration (this
 -- project's choice).
 use Rattle.std.specs.Prelude.{ℕ, ◌-◌, Bool, true, false, ◌&&◌, ◌||◌, ◌==◌, nat_le, nat_lt}
-use Rattle.std.specs.Prelude.{List, [], ◌∷◌, codes, Option, find}
+use Rattle.std.specs.Prelude.{List, [], ◌∷◌, codes, Option, None, find}
 use Rattle.std.specs.Str.{bytes_eq}
 use Rattle.lg_rules.specs.declared.addr.Addr.{Addr}
 use Rattle.lg_timing.specs.declared.config.Config.{Config}
@@ -10,7 +10,7 @@ use Rattle.lg_timing.specs.declared.config.ConfigFault.TheVariants as fault
 use Rattle.lg_timing.specs.declared.keys.Key.{Key}
 use Rattle.lg_timing.specs.declared.keys.Key.TheVariants.{IntervalMs, TimeoutMs, Indirect, MaxScore, Alpha}
 use Rattle.lg_timing.specs.declared.keys.Key.TheVariants.{Beta, Confirmations, Lambda, NackThousandths, HistoryLimit}
-use Rattle.lg_timing.specs.declared.keys.Key.TheVariants.{Wire, GossipMs, GossipTo}
+use Rattle.lg_timing.specs.declared.keys.Key.TheVariants.{Wire, ForgetMs, GossipMs, GossipTo, First}
 use Rattle.lg_timing.specs.declared.keys.KeyRow.{KeyRow}
 use Rattle.lg_timing.specs.Meaning.Bounds.{least_interval_ms, most_interval_ms, most_confirmations, most_factor}
 
@@ -23,7 +23,7 @@ abbrev pub keys : List Key
 keys =
     IntervalMs ∷ TimeoutMs ∷ Indirect ∷ MaxScore ∷ Alpha
     ∷ Beta ∷ Confirmations ∷ Lambda ∷ NackThousandths ∷ HistoryLimit
-    ∷ Wire ∷ GossipMs ∷ GossipTo ∷ []
+    ∷ Wire ∷ ForgetMs ∷ GossipMs ∷ GossipTo ∷ First ∷ []
 
 -- a key's name
 abbrev pub key_name : Key → List ℕ
@@ -38,8 +38,10 @@ key_name Lambda = codes "lambda"
 key_name NackThousandths = codes "nack_thousandths"
 key_name HistoryLimit = codes "history_limit"
 key_name Wire = codes "wire"
+key_name ForgetMs = codes "forget_ms"
 key_name GossipMs = codes "gossip_ms"
 key_name GossipTo = codes "gossip_to"
+key_name First = codes "first"
 
 -- a fault's number; a check looks for the faults in the order of their numbers
 abbrev pub config_fault_number : ConfigFault → ℕ
@@ -55,8 +57,11 @@ config_fault_number fault.Nack = 9
 config_fault_number fault.History = 10
 config_fault_number fault.Seeds = 11
 config_fault_number fault.Wire = 15
+config_fault_number fault.Forget = 22
 config_fault_number fault.GossipMs = 23
 config_fault_number fault.GossipTo = 24
+config_fault_number fault.First = 25
+config_fault_number fault.Group = 26
 
 -- a least and a greatest number, a default, and the fault of a number out of its range; 0 turns nothing off
 abbrev pub row : ℕ → ℕ → ℕ → ConfigFault → KeyRow
@@ -79,8 +84,10 @@ row_of Lambda = row 1 10 4 fault.Lambda
 row_of NackThousandths = row 1 999 800 fault.Nack
 row_of HistoryLimit = row 2 1000000 20000 fault.History
 row_of Wire = row 1 3 1 fault.Wire
+row_of ForgetMs = row_or_off 1000 2592000000 0 fault.Forget
 row_of GossipMs = row_or_off 10 60000 200 fault.GossipMs
 row_of GossipTo = row 1 8 3 fault.GossipTo
+row_of First = row 1 4294967295 1 fault.First
 
 -- the number of a key
 abbrev pub number_of_key : Key → Config → ℕ
@@ -95,8 +102,10 @@ number_of_key Lambda c = c.lambda
 number_of_key NackThousandths c = c.nack_thousandths
 number_of_key HistoryLimit c = c.history_limit
 number_of_key Wire c = c.wire
+number_of_key ForgetMs c = c.forget_ms
 number_of_key GossipMs c = c.gossip_ms
 number_of_key GossipTo c = c.gossip_to
+number_of_key First c = c.first
 
 -- a configuration with the number of one key changed
 abbrev pub with_number : Key → ℕ → Config → Config
@@ -111,8 +120,10 @@ with_number Lambda n c = record c { lambda = n }
 with_number NackThousandths n c = record c { nack_thousandths = n }
 with_number HistoryLimit n c = record c { history_limit = n }
 with_number Wire n c = record c { wire = n }
+with_number ForgetMs n c = record c { forget_ms = n }
 with_number GossipMs n c = record c { gossip_ms = n }
 with_number GossipTo n c = record c { gossip_to = n }
+with_number First n c = record c { first = n }
 
 -- the default configuration of a member, which knows no other member from the start
 abbrev pub defaults : List ℕ → Addr → Config
@@ -129,8 +140,11 @@ defaults name addr =
       nack_thousandths = (row_of NackThousandths).default;
       history_limit = (row_of HistoryLimit).default;
       wire = (row_of Wire).default;
+      forget_ms = (row_of ForgetMs).default;
       gossip_ms = (row_of GossipMs).default;
       gossip_to = (row_of GossipTo).default;
+      first = (row_of First).default;
+      group = None;
       seeds = record { items = [] };
       name = name;
       addr = addr;

@@ -15,11 +15,14 @@ use Rattle.lg_timing.specs.declared.config.TheConstants.{
   MAX_HISTORY_LIMIT,
   MIN_WIRE,
   MAX_WIRE,
+  MAX_FORGET_MS,
   MAX_GOSSIP_MS,
   MAX_GOSSIP_TO,
+  MIN_FIRST,
+  MAX_FIRST,
   MAX_SEEDS,
 }
-use Rattle.lg_timing.specs.Meaning.Config.{is_seed, have_distinct_names}
+use Rattle.lg_timing.specs.Meaning.Config.{can_name_group, is_seed, have_distinct_names}
 
 pub record HasRanges (c : Config) : Type 0 where
   pub interval_least : MIN_INTERVAL_MS ≤ c.interval_ms
@@ -41,9 +44,13 @@ pub record HasRanges (c : Config) : Type 0 where
   pub history_most : c.history_limit ≤ MAX_HISTORY_LIMIT
   pub wire_least : MIN_WIRE ≤ c.wire
   pub wire_most : c.wire ≤ MAX_WIRE
+  pub forget_most : c.forget_ms ≤ MAX_FORGET_MS
   pub gossip_most : c.gossip_ms ≤ MAX_GOSSIP_MS
   pub gossip_to_least : 1 ≤ c.gossip_to
   pub gossip_to_most : c.gossip_to ≤ MAX_GOSSIP_TO
+  pub first_least : MIN_FIRST ≤ c.first
+  pub first_most : c.first ≤ MAX_FIRST
+  pub group_named : can_name_group c.group c.wire ≡ true
   pub seeds_most : length c.seeds.items ≤ MAX_SEEDS
   pub seeds_distinct : have_distinct_names c.seeds.items ≡ true
   pub seeds_others : is_seed c.name c.seeds.items ≡ false

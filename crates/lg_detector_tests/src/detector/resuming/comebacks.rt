@@ -1,14 +1,14 @@
 //! What happens to members of scripts in which one that failed comes back: of `examples/comeback.sim`, and of one in
 //! `cases/sim.case`. All is as in the script, with the exceptions that `scripts.rt` names.
-use crate::detector::happening::Happens::{First, From, Health, Opens, Pull};
-use crate::detector::happening::Says::{self, Page, PullFirst};
-use crate::detector::happening::Setting::{Alpha, Interval, Own, Seed, Timeout};
-use crate::detector::playing::Case;
-use crate::detector::playing::Step::Takes;
-use crate::says::Said::{Alive, AliveAt, FailedAt, SuspectAt};
+use lg_detector_testing::DetectorCase;
+use lg_detector_testing::Happens::{First, From, Health, Opens, Pull};
+use lg_detector_testing::Setting::{Alpha, Interval, Own, Seed, Timeout};
+use lg_detector_testing::Step::Takes;
+use lg_testing::bodies::Says::{self, Page, PullFirst};
+use lg_testing::says::Said::{Alive, AliveAt, FailedAt, SuspectAt};
 
 /// Members to which something happens after they were opened. Each list begins with the opening.
-pub(super) const COMEBACKS: &[Case] = &[
+pub(super) const COMEBACKS: &[DetectorCase] = &[
     (
         "comeback.sim, a",
         &[

@@ -1,15 +1,15 @@
-//! What happens to members of the worked scripts: of all in `examples` but `comeback.sim` and `leave.sim`, and of some in
-//! `cases/sim.case`, `sim_packets.case` and `sim_replies.case`. All is as in the script, with two exceptions. A claim
-//! of an incarnation above 0 is about port 7000, and the member that is pulled is at port 7002.
-use crate::detector::happening::Happens::{Ask, First, From, Health, Opens, Pull, TickBy};
-use crate::detector::happening::Says::{self, Nack, Page, PullAfter, PullFirst, Request};
-use crate::detector::happening::Setting::{Alpha, Indirect, Own, Seed, Timeout};
-use crate::detector::playing::Case;
-use crate::detector::playing::Step::Takes;
-use crate::says::Said::{Alive, AliveAt, FailedAt, SuspectAt};
+//! What happens to members of the worked scripts: of all in `examples` but `comeback.sim` and `leave.sim`, and of some
+//! in `cases/sim.case`, `sim_packets.case` and `sim_replies.case`. All is as in the script, with two exceptions. A
+//! claim of an incarnation above 0 is about port 7000, and the member that is pulled is at port 7002.
+use lg_detector_testing::DetectorCase;
+use lg_detector_testing::Happens::{Ask, First, From, Health, Opens, Pull, TickBy};
+use lg_detector_testing::Setting::{Alpha, Indirect, Own, Seed, Timeout};
+use lg_detector_testing::Step::Takes;
+use lg_testing::bodies::Says::{self, Nack, Page, PullAfter, PullFirst, Request};
+use lg_testing::says::Said::{Alive, AliveAt, FailedAt, SuspectAt};
 
 /// Members of `examples` to which something happens after they were opened. Each list begins with the opening.
-pub(super) const EXAMPLES: &[Case] = &[
+pub(super) const EXAMPLES: &[DetectorCase] = &[
     (
         "probe.sim, a",
         &[
@@ -159,7 +159,7 @@ pub(super) const EXAMPLES: &[Case] = &[
 ];
 
 /// The members of the example in which one dies.
-pub(super) const DEATH: &[Case] = &[
+pub(super) const DEATH: &[DetectorCase] = &[
     (
         "death.sim, a",
         &[
@@ -253,7 +253,7 @@ pub(super) const DEATH: &[Case] = &[
 ];
 
 /// Members of scripts in `cases`.
-pub(super) const SCRIPTS: &[Case] = &[
+pub(super) const SCRIPTS: &[DetectorCase] = &[
     (
         "a relay and its Nack, a",
         &[

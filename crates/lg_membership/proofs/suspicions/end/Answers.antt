@@ -7,7 +7,7 @@ use Rattle.lg_membership.specs.declared.suspected.Suspected.{Suspected}
 use Rattle.lg_membership.specs.Meaning.Suspicions.{SuspectedValue, suspected_name}
 use Rattle.lg_membership.specs.Support.Changes.{ended, suspicions_after, deadline_of_change}
 use Rattle.lg_membership.specs.Support.Rows.{kept_name, row_by, rows_by, AreKnownTo}
-use Rattle.lg_membership.proofs.Removing.{remove-without}
+use Rattle.lg_rules.proofs.Removing.{remove-without}
 use Rattle.lg_membership.proofs.Joining.{found-by}
 use Rattle.lg_membership.proofs.RowsByNames.{row_at-by, without-by, known-without}
 use Rattle.lg_membership.proofs.suspicions.end.Goals as goal
@@ -45,7 +45,7 @@ returns-in-Ok-clause-deadline c = λ names.
     sym (ap (λ (o : Option SuspectedValue). deadline_of_change (ended m o))
     (found-by names m m c.args.suspicions.now.items c.in-Ok.at c.remove.result (has c)))
 
-gap : (c : In-Err) (names : List (List ℕ))
+gap : (c : In-Err) (names : List (Option (List ℕ)))
     → row_at name_cmp suspected_name c.args.name.now (rows_by names c.args.suspicions.now.items) ≡ None
 gap c names =
     let m = c.args.name.now in

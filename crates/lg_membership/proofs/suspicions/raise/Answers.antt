@@ -1,4 +1,4 @@
-use Rattle.std.proofs.Common.{◌≡◌, ℕ, List, [], ◌∷◌, sym, subst, ◌∙◌, ap}
+use Rattle.std.proofs.Common.{Option, ◌≡◌, ℕ, List, [], ◌∷◌, sym, subst, ◌∙◌, ap}
 use Rattle.lg_rules.specs.Meaning.Rows.{name_cmp, put_row}
 use Rattle.lg_rules.specs.Meaning.Table.{live_in}
 use Rattle.lg_timing.specs.Meaning.Timeouts.{range_of}
@@ -13,7 +13,7 @@ use Rattle.lg_membership.proofs.suspicions.raise.Goals as goal
 use Rattle.lg_membership.proofs.suspicions.raise.Goals.{After-put_row}
 
 -- the suspicion that is kept
-is_raised : (c : After-put_row) (names : List (List ℕ))
+is_raised : (c : After-put_row) (names : List (Option (List ℕ)))
     → suspicion_by names c.raise-suspicion.result
     ≡ record {
       raised = c.args.now;

@@ -1,7 +1,5 @@
-use Rattle.std.proofs.Common.{◌≡◌, List, ◌∷◌, ◌++◌, Some, subst, sym, ap, ◌∙◌}
-use Rattle.std.specs.Prelude.{filter}
+use Rattle.std.proofs.Common.{◌≡◌, List, ◌++◌, subst, ◌∙◌}
 use Rattle.lg_changes.specs.declared.change.Change.{Change}
-use Rattle.lg_changes.specs.Meaning.Changes.{is_after}
 use Rattle.lg_changes.specs.declared.behind.Behind.{Behind}
 use Rattle.lg_changes.specs.declared.behind.Behind.TheVariants.{All}
 use Rattle.lg_changes.specs.Meaning.Kept.{HasBehind, KeepsNewest}

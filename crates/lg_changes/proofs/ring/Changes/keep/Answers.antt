@@ -1,6 +1,5 @@
 use Rattle.std.proofs.Common.{◌≡◌, ◌+◌, ◌<◌, ◌≤◌, length, ◌∙◌, arith}
 use Rattle.std.specs.VecDeque.{deque_capacity, deque_len}
-use Rattle.lg_changes.specs.Meaning.Changes.{change_at}
 use Rattle.lg_changes.proofs.KeptLaws.{keeps_full}
 use Rattle.lg_changes.proofs.ring.Changes.keep.Goals as goal
 
@@ -13,6 +12,6 @@ returns-in-Some c all k =
     let fewer : deque_len popped + 1 ≡ deque_len before = c.in-Some.ensures.cases in
     let room : deque_capacity popped ≡ deque_capacity before = c.in-Some.ensures.capacity in
     let fits : deque_len popped < deque_capacity popped = omega (arith, few, fewer, room, k.counted, k.room) in
-    keeps_full c.args.self.now _ all popped.items c.in-Some.oldest (change_at c.args.version c.args.moment c.args.member.now) k above
+    keeps_full c.args.self.now _ all popped.items c.in-Some.oldest c.args.change.now k above
     c.in-Some.ensures.items (c.push-in-Some.ensures.items fits) (c.push-in-Some.ensures.len fits ∙ fewer)
     (c.push-in-Some.ensures.room fits ∙ room) c.max-self.ensures

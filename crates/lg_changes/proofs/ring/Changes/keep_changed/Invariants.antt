@@ -1,6 +1,6 @@
 use Rattle.std.proofs.Common.{List, ◌++◌, map, take}
 use Rattle.lg_changes.specs.declared.change.Change.{Change}
-use Rattle.lg_changes.specs.Meaning.Changes.{change_at}
+use Rattle.lg_changes.specs.Meaning.Changes.{recorded_at}
 use Rattle.lg_changes.specs.Meaning.Kept.{KeepsNewest}
 use Rattle.lg_changes.proofs.ring.Changes.keep_changed.Given as goal
 
@@ -8,4 +8,4 @@ use Rattle.lg_changes.proofs.ring.Changes.keep_changed.Given as goal
 abbrev pub invariant-loop-member : goal.invariant-loop-member
 invariant-loop-member l =
     (all : List Change) → KeepsNewest l.initial.self all
-    → KeepsNewest l.self (all ++ map (change_at l.version l.moment) (take l.member-index l.members))
+    → KeepsNewest l.self (all ++ map (recorded_at l.version l.moment) (take l.member-index l.members))

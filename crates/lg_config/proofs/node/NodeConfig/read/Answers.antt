@@ -2,6 +2,7 @@ use Rattle.std.proofs.Common.{◌≡◌, ℕ, true, List, Result, Ok, Err, IfOk,
 use Rattle.std.specs.Result.{IsErrAnd}
 use Rattle.toml.specs.Data.{Members}
 use Rattle.toml.specs.View.{table_view}
+use Rattle.lg_timing.specs.Meaning.Config.{IsChecked}
 use Rattle.lg_config.specs.declared.document.Unread.{Unread}
 use Rattle.lg_config.specs.declared.document.Unread.TheVariants as unread
 use Rattle.lg_config.specs.declared.fault.FileFault.{FileFault}
@@ -12,7 +13,7 @@ use Rattle.lg_config.specs.Meaning.Answer.{IsAnswer, answer_of, document_of, mea
 use Rattle.lg_config.specs.Meaning.NodeKeys.{own_broken}
 use Rattle.lg_config.specs.Support.Reading.{IsUnread, SaysUnread}
 use Rattle.lg_config.specs.Meaning.Status.{may_listen}
-use Rattle.lg_config.proofs.MeaningLaws.{guarded-meaning, within-meaning}
+use Rattle.lg_config.proofs.MeaningLaws.{guarded-meaning, passed-meaning, within-meaning}
 use Rattle.lg_config.proofs.node.NodeConfig.read.Goals as goal
 
 -- the error that a `?` passes on
@@ -43,6 +44,11 @@ returns-in_err-meaning_in-clause-answer c =
 
 pub returns-clause-answer : goal.returns-clause-answer
 returns-clause-answer c = read-as c.args.bytes.now _ _ c.in_ok-table.ensures c.in_ok-meaning_in.ensures
+
+pub returns-clause-checked : goal.returns-clause-checked
+returns-clause-checked c =
+    subst (λ r. IfOk r (λ node. IsChecked node.config)) (sym c.in_ok-meaning_in.ensures)
+    (passed-meaning (table_view c.in_ok-table.table))
 
 pub returns-clause-within : goal.returns-clause-within
 returns-clause-within c =

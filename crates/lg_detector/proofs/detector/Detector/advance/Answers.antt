@@ -12,6 +12,7 @@ returns-clause-reply c =
       fired = c.react.ensures.fired i;
       sends = record { items = c.react.ensures.sends i };
       changed = record { items = c.react.ensures.differing i };
+      forgotten = record { items = c.react.ensures.forgotten i };
       answer = c.react.ensures.answer i;
       ousted = (c.is_ousted-reply.ensures ∙ ap (λ (s : State). s.membership.own.ousted) behind) i;
       next = (c.next-reply.ensures ∙ ap (λ (s : State). or_zero (deadline_state s)) behind) i;

@@ -1,4 +1,4 @@
-use Rattle.std.proofs.Common.{None, ap, sym, subst, ◌∙◌}
+use Rattle.std.proofs.Common.{None, ap, sym, subst, ◌∙◌, arith}
 use Rattle.lg_timers.specs.Meaning.Timers.{with_timer}
 use Rattle.lg_detector.specs.Meaning.Timing.{start_timer}
 use Rattle.lg_detector.specs.Support.Kept.{state_in}
@@ -9,6 +9,9 @@ use Rattle.lg_detector.proofs.detector.Detector.begin.Goals as goal
 
 pub new-parts-requires : goal.new-parts-requires
 new-parts-requires c = (ranges c.args.config.now c.requires).max_score_most
+
+pub overflow_cast-parts : goal.overflow_cast-parts
+overflow_cast-parts c = omega (arith, (ranges c.args.config.now c.requires).first_most)
 
 pub invariant_of-self : goal.invariant_of-self
 invariant_of-self c =
@@ -22,7 +25,7 @@ invariant_of-self c =
       score = c.new-parts.ensures i;
       timers = timers i;
       order = c.new-parts-2.ensures i;
-      number = 1;
+      number = c.args.config.now.first;
       round = None;
       gossip = None;
       relays = c.new-parts-3.ensures i;

@@ -1,4 +1,4 @@
-use Rattle.std.proofs.Common.{◌≡◌, ◌≤◌, ◌+◌, [], None, length, ap, sym, subst, ◌∙◌, arith}
+use Rattle.std.proofs.Common.{◌≡◌, ◌≤◌, [], None, length, ap, sym, subst, ◌∙◌, arith}
 use Rattle.lg_probe.specs.declared.relays.TheConstants.{MAX_RELAYS}
 use Rattle.lg_membership.specs.Support.Reached.{IsGood}
 use Rattle.lg_membership.proofs.LiveOthers.{live-nil}
@@ -11,7 +11,7 @@ use Rattle.lg_detector.proofs.detector.Detector.blank.Goals as goal
 
 pub returns : goal.returns
 returns c =
-    let timers = c.new-2.ensures ∙ pending-nil ∙ ap (λ rows. turned [] [] [] (runs rows)) (sym suspicions-nil) in
+    let timers = c.new-2.ensures ∙ pending-nil ∙ ap (λ rows. turned [] [] [] (runs (record { rows = rows; gone = [] }))) (sym suspicions-nil) in
     let order = c.new-3.ensures ∙ ap (λ names. record { names = names; chosen = [] }) (sym live-nil) in
     ap state_in c.in_ok-parts.ensures.ok
     ∙ (λ i. record {
@@ -29,7 +29,7 @@ returns c =
 
 pub invariant_of-result : goal.invariant_of-result
 invariant_of-result c =
-    let timers = c.new-2.ensures ∙ pending-nil ∙ ap (λ rows. turned [] [] [] (runs rows)) (sym suspicions-nil) in
+    let timers = c.new-2.ensures ∙ pending-nil ∙ ap (λ rows. turned [] [] [] (runs (record { rows = rows; gone = [] }))) (sym suspicions-nil) in
     let order = c.new-3.ensures ∙ ap (λ names. record { names = names; chosen = [] }) (sym live-nil) in
     let is : state_in c.in_ok-parts.parts.value ≡ state_of [] =
     ap state_in c.in_ok-parts.ensures.ok
@@ -50,6 +50,5 @@ invariant_of-result c =
       is = is;
       good = subst (λ (s : State). IsGood s.membership.config) (sym is) tt;
       few_events = subst (λ (s : State). s.events ≤ MAX_EVENTS) (sym is) (omega arith);
-      numbered = subst (λ (s : State). s.number ≤ s.events + 1) (sym is) (omega arith);
       few_relays = subst (λ (s : State). length s.relays ≤ MAX_RELAYS) (sym is) (omega arith);
     }

@@ -1,21 +1,12 @@
-use Rattle.std.proofs.Common.{◌≡◌, ◌+◌, ◌≤◌, Option, ap, sym, subst, ◌∙◌, arith}
+use Rattle.std.proofs.Common.{◌≡◌, ◌+◌, Option, ap, sym, subst, ◌∙◌, arith}
 use Rattle.lg_detector.specs.Support.Kept.{state_in}
 use Rattle.lg_detector.specs.Support.Reached.{IsReached}
-use Rattle.lg_detector.specs.Support.State.{State}
 use Rattle.lg_timing.specs.declared.config.Config.{Config}
 use Rattle.lg_detector.specs.Meaning.Timing.{scaled_interval, scaled_timeout}
 use Rattle.lg_detector.specs.Meaning.Probing.{first_word}
 use Rattle.lg_detector.specs.Support.State.{choice_unless, chose_unless, number_after, round_of_choice, with_round}
 use Rattle.lg_detector.proofs.Reaching.{few_timers, reached-start}
 use Rattle.lg_detector.proofs.detector.Detector.choose.Goals as goal
-
-pub number_after-parts-requires : goal.number_after-parts-requires
-number_after-parts-requires c =
-    let parts = c.deref_mut-parts.result.now in
-    let before : IsReached (state_in parts) = subst IsReached (sym (ap state_in c.deref_mut-parts.ensures.value)) c.self.invariant in
-    let here : state_in parts ≡ c.args.self.now = ap state_in c.deref_mut-parts.ensures.value ∙ c.self.view_is in
-    let le : parts.number ≤ parts.events = subst (λ (s : State). s.number ≤ s.events) (sym here) c.requires in
-    omega (arith, le, before.few_events)
 
 pub set_round-requires : goal.set_round-requires
 set_round-requires c =
@@ -27,7 +18,6 @@ pub invariant_of-self : goal.invariant_of-self
 invariant_of-self c =
     let parts = c.deref_mut-parts.result.now in
     let before : IsReached (state_in parts) = subst IsReached (sym (ap state_in c.deref_mut-parts.ensures.value)) c.self.invariant in
-    let here : state_in parts ≡ c.args.self.now = ap state_in c.deref_mut-parts.ensures.value ∙ c.self.view_is in
     let end : c.milliseconds-now.result + c.scaled_interval.result ≡ parts.moment + scaled_interval parts.membership.config parts.score =
     λ i. c.milliseconds-now.ensures.milliseconds i + (c.scaled_interval.ensures.interval ∙ ap (λ (o : Option Config). scaled_interval o parts.score) c.config-config.ensures.state) i in
     let direct : c.milliseconds-now.result + c.scaled_timeout.result ≡ parts.moment + scaled_timeout parts.membership.config parts.score =
@@ -50,4 +40,4 @@ invariant_of-self c =
       relays = parts.relays;
       membership = parts.membership;
     })
-    (subst (λ (s : State). s.number ≤ s.events) (sym here) c.requires) before
+    before

@@ -14,9 +14,3 @@ invariant_of-self c =
     reached-come (state_in parts) _ c.args.now
     (λ i. record { events = parts.events + 1; moment = later i; score = parts.score; timers = parts.timers; order = parts.order; number = parts.number; round = parts.round; gossip = parts.gossip; relays = parts.relays; membership = parts.membership })
     (subst (λ (s : State). s.events < MAX_EVENTS) (sym (ap state_in c.deref_mut-parts.ensures.value ∙ c.self.view_is)) c.requires) before
-
-pub returns-clause-numbered : goal.returns-clause-numbered
-returns-clause-numbered c =
-    let parts = c.deref_mut-parts.result.now in
-    let before : IsReached (state_in parts) = subst IsReached (sym (ap state_in c.deref_mut-parts.ensures.value)) c.self.invariant in
-    omega (arith, before.numbered)

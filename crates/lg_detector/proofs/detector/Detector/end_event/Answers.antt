@@ -1,9 +1,8 @@
 use Rattle.std.proofs.Common.{◌≡◌, ap, sym, subst, ◌∙◌, arith}
-use Rattle.lg_timing.specs.declared.config.Config.{Config}
 use Rattle.lg_detector.specs.declared.detector.Parts.{Parts}
 use Rattle.lg_detector.specs.Support.Kept.{state_in}
 use Rattle.lg_detector.specs.Meaning.Timing.{gossip_by, gossip_delay}
-use Rattle.lg_detector.specs.Support.State.{State, end_event, has_to_tell_state, next_gossip, with_gossip}
+use Rattle.lg_detector.specs.Support.State.{end_event, has_to_tell_state, next_gossip, with_gossip}
 use Rattle.lg_detector.specs.Support.Reached.{IsReached}
 use Rattle.lg_detector.proofs.Reaching.{few_timers, reached-ended}
 use Rattle.lg_detector.proofs.detector.Detector.end_event.Goals as goal

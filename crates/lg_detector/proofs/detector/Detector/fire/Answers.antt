@@ -28,6 +28,12 @@ returns-in-RoundStart-clause-differing c =
     let reached : IsReached s = subst IsReached c.self.view_is c.self.invariant in
     c.clear-in-RoundStart.ensures ∙ silent_differing s c.args.timer.now c.args.words.now reached (ap (λ id. claims_said_state id s) c.in-RoundStart.is)
 
+pub returns-in-Forget-clause-differing : goal.returns-in-Forget-clause-differing
+returns-in-Forget-clause-differing c =
+    let s = c.args.self.now in
+    let reached : IsReached s = subst IsReached c.self.view_is c.self.invariant in
+    c.clear-in-Forget.ensures ∙ silent_differing s c.args.timer.now c.args.words.now reached (ap (λ id. claims_said_state id s) c.in-Forget.is)
+
 pub returns-in-Gossip-clause-differing : goal.returns-in-Gossip-clause-differing
 returns-in-Gossip-clause-differing c =
     let s = c.args.self.now in

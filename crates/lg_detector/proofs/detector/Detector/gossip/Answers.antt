@@ -1,4 +1,4 @@
-use Rattle.std.proofs.Common.{ap, sym, ◌∙◌}
+use Rattle.std.proofs.Common.{ap, ◌∙◌}
 use Rattle.lg_detector.specs.Meaning.Tick.{gossips_for}
 use Rattle.lg_detector.specs.Support.Send.{packets_state, send_all_state}
 use Rattle.lg_detector.specs.Support.State.{State, gossip_fired}

@@ -7,4 +7,4 @@ pub returns-in-None-clause-differing : goal.returns-in-None-clause-differing
 returns-in-None-clause-differing c =
     let s = c.args.self.now in
     let reached : IsReached s = subst IsReached c.self.view_is c.self.invariant in
-    c.clear.ensures ∙ idle_differing s c.come.new.self c.args.now c.args.words.now reached c.come.ensures.state (sym c.in-None.is ∙ c.due-reply.ensures)
+    c.clear-in-None.ensures ∙ idle_differing s c.come.new.self c.args.now c.args.words.now reached c.come.ensures (sym c.in-None.is ∙ c.due-reply.ensures)

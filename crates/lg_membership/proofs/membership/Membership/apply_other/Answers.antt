@@ -1,6 +1,6 @@
 use Rattle.std.proofs.Common.{◌≡◌, ◌≢◌, false, Option, ap, sym, subst, ◌∙◌}
 use Rattle.lg_rules.specs.declared.claim.Claim.{Claim}
-use Rattle.lg_rules.specs.Meaning.Table.{MembersValue, heard, names_heard, live_in}
+use Rattle.lg_rules.specs.Meaning.Table.{MembersValue, takes, heard, live_in}
 use Rattle.lg_membership.specs.Meaning.Gossip.{put_if}
 use Rattle.lg_membership.specs.Support.Changes.{row_about, suspicions_after, deadline_of_change, is_override}
 use Rattle.lg_membership.specs.Support.Changes.{presence_by}
@@ -32,12 +32,12 @@ suspect-deadline-requires-clause-seat c = λ overrode.
     seat-kept inside.members.names claim.name inside.suspicions.items
     (other_seat claim _ c.self.invariant.reached
     (λ same. c.requires (same ∙ ap (λ (s : GroupState). s.own.name) c.self.view_is))
-    (overrode-takes inside.members.table claim (sym c.hear-heard.ensures.hearing ∙ overrode)))
+    (overrode-takes inside.members.forgets inside.members.table claim (sym c.hear-heard.ensures.hearing ∙ overrode)))
 
 pub suspect-deadline-requires-clause-known : goal.suspect-deadline-requires-clause-known
 suspect-deadline-requires-clause-known c =
     let inside = c.self.inside in
-    known-heard inside.members.names c.args.claim.now inside.suspicions.items c.hear-heard.ensures.names
+    known-heard (takes inside.members.forgets inside.members.table c.args.claim.now) inside.members.names c.args.claim.now inside.suspicions.items (ap (λ (k : MembersValue). k.names) c.hear-heard.ensures.members)
     c.self.invariant.known
 
 pub put-requires : goal.put-requires
@@ -47,14 +47,14 @@ put-requires c =
     let table = inside.members.table in
     let names = inside.members.names in
     let rows = inside.suspicions.items in
-    let n = live_in (heard table claim) in
+    let n = live_in (heard inside.members.forgets table claim) in
     let hearing = c.hear-heard.ensures.hearing in
-    let change = change-heard inside.config c.args.now claim table names rows hearing c.hear-heard.ensures.table
-    c.hear-heard.ensures.names c.self.invariant.known in
+    let change = change-heard inside.members.forgets inside.config c.args.now claim table names rows hearing (ap (λ (k : MembersValue). k.table) c.hear-heard.ensures.members)
+    (ap (λ (k : MembersValue). k.names) c.hear-heard.ensures.members) c.self.invariant.known in
     let deadline = c.suspect-deadline.ensures.deadline ∙ ap deadline_of_change change in
     let row = row_about claim (rows_by names rows) in
     let counts = c.is_to_be_passed_on-counts.ensures
-    ∙ counts_for table inside.config c.args.now n row claim hearing deadline in
+    ∙ counts_for inside.members.forgets table inside.config c.args.now n row claim hearing deadline in
     let puts = c.put_of_other.ensures ∙ ap (λ b. put_if c.args.origin b claim) counts in
     let other : claim.name ≢ inside.own.name = λ same.
     c.requires (same ∙ ap (λ (s : GroupState). s.own.name) c.self.view_is) in
@@ -83,33 +83,22 @@ state_is c =
     let table = inside.members.table in
     let names = inside.members.names in
     let rows = inside.suspicions.items in
-    let n = live_in (heard table claim) in
+    let n = live_in (heard inside.members.forgets table claim) in
     let hearing = c.hear-heard.ensures.hearing in
-    let change = change-heard inside.config c.args.now claim table names rows hearing c.hear-heard.ensures.table
-    c.hear-heard.ensures.names c.self.invariant.known in
-    let before = rows-heard names claim rows c.hear-heard.ensures.names c.self.invariant.known in
+    let change = change-heard inside.members.forgets inside.config c.args.now claim table names rows hearing (ap (λ (k : MembersValue). k.table) c.hear-heard.ensures.members)
+    (ap (λ (k : MembersValue). k.names) c.hear-heard.ensures.members) c.self.invariant.known in
+    let before = rows-heard (takes inside.members.forgets table claim) names claim rows (ap (λ (k : MembersValue). k.names) c.hear-heard.ensures.members) c.self.invariant.known in
     let deadline = c.suspect-deadline.ensures.deadline ∙ ap deadline_of_change change in
     let suspicions = c.suspect-deadline.ensures.rows ∙ (λ i. suspicions_after (change i) (before i)) in
     let row = row_about claim (rows_by names rows) in
     let counts = c.is_to_be_passed_on-counts.ensures
-    ∙ counts_for table inside.config c.args.now n row claim hearing deadline in
+    ∙ counts_for inside.members.forgets table inside.config c.args.now n row claim hearing deadline in
     let puts = c.put_of_other.ensures ∙ ap (λ b. put_if c.args.origin b claim) counts in
     let queue = c.put.ensures ∙ ap (λ (o : Option Claim). queue_with o inside.queue) puts in
-    let heard-all : MembersValue = record {
-      own = inside.members.own;
-      table = heard table claim;
-      names = names_heard names claim;
-    } in
-    let members : c.hear-heard.new.self ≡ heard-all =
-    λ i. record {
-      own = c.hear-heard.ensures.own i;
-      table = c.hear-heard.ensures.table i;
-      names = c.hear-heard.ensures.names i;
-    } in
     λ i. record {
       config = inside.config;
       own = inside.own;
-      members = members i;
+      members = c.hear-heard.ensures.members i;
       suspicions = suspicions i;
       queue = queue i;
     }
@@ -134,18 +123,18 @@ returns-clause-applied c =
     let table = inside.members.table in
     let names = inside.members.names in
     let rows = inside.suspicions.items in
-    let after = c.hear-heard.ensures.table in
+    let after = (ap (λ (k : MembersValue). k.table) c.hear-heard.ensures.members) in
     let hearing = c.hear-heard.ensures.hearing in
     let taken = c.taken_of_other.ensures ∙ ap (λ h. taken_if (is_override h) claim) hearing
-    ∙ ap (λ b. taken_if b claim) (override-takes table claim) in
+    ∙ ap (λ b. taken_if b claim) (override-takes inside.members.forgets table claim) in
     let changed = c.if_open.ensures ∙ ap (if_open inside.config) taken in
-    let change = change-heard inside.config c.args.now claim table names rows hearing after
-    c.hear-heard.ensures.names c.self.invariant.known in
+    let change = change-heard inside.members.forgets inside.config c.args.now claim table names rows hearing after
+    (ap (λ (k : MembersValue). k.names) c.hear-heard.ensures.members) c.self.invariant.known in
     let deadline = c.suspect-deadline.ensures.deadline ∙ ap deadline_of_change change in
     let live = c.live.ensures.count ∙ ap live_in after in
     let presence =
     c.presence_by-presence.ensures
     ∙ (λ i. presence_by (c.live-before.ensures.count i) (live i))
-    ∙ presence-counted table claim (reached-ordered _ c.self.invariant.reached).rises in
+    ∙ presence-counted inside.members.forgets table claim (reached-ordered _ c.self.invariant.reached).rises in
     (λ i. record { changed = changed i; refuted = false; deadline = deadline i; presence = presence i })
     ∙ ap (applied_other c.args.now claim) c.self.view_is

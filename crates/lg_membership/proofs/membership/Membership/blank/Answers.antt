@@ -1,4 +1,4 @@
-use Rattle.std.proofs.Common.{◌≡◌, List, [], ◌∷◌, ℕ, None, sym, subst, ◌∙◌, ap}
+use Rattle.std.proofs.Common.{◌≡◌, false, List, [], ◌∷◌, ℕ, None, sym, subst, ◌∙◌, ap}
 use Rattle.lg_rules.specs.declared.addr.Addr.{Addr}
 use Rattle.lg_rules.specs.declared.version.Version.TheVariants.{One}
 use Rattle.lg_rules.specs.Meaning.Own.{own_of}
@@ -23,7 +23,7 @@ is_blank : (c : After-new-4) → made c ≡ group_state_of []
 is_blank c =
     let own = c.new.ensures ∙ ap (λ (n : List ℕ). own_of n c.v4.result []) c.default-name.ensures
     ∙ ap (λ (a : Addr). own_of (97 ∷ []) a []) c.v4.ensures in
-    let members = c.new-2.ensures ∙ ap (λ (n : List ℕ). known_of n []) c.default-name.ensures in
+    let members = c.new-2.ensures ∙ ap (λ (n : List ℕ). known_of false n []) c.default-name.ensures in
     let suspicions = ap (rows_by c.new-2.result.names) c.new-3.ensures ∙ sym suspicions-nil in
     let queue = c.new-4.ensures ∙ (λ i. record { lambda = 1; version = One; rows = sym queue-nil i }) in
     λ i. record { config = None; own = own i; members = members i; suspicions = suspicions i; queue = queue i }

@@ -1,5 +1,6 @@
-use Rattle.std.proofs.Common.{ℕ, [], Some, ap, sym, subst, ◌∙◌}
+use Rattle.std.proofs.Common.{ℕ, Bool, [], Some, ap, sym, subst, ◌∙◌}
 use Rattle.lg_rules.specs.declared.version.Version.{Version}
+use Rattle.lg_rules.specs.Meaning.Table.{known_of}
 use Rattle.lg_timing.proofs.ConfigLemmas.{ranges}
 use Rattle.lg_gossip.specs.Meaning.Queue.{QueueValue}
 use Rattle.lg_membership.specs.Meaning.Gossip.{own_arrival}
@@ -21,14 +22,15 @@ invariant_of-self c =
     let arrived =
     c.own_arrival.ensures ∙ (λ i. own_arrival (c.version-2.ensures i) (c.new-self-inside.ensures i)) in
     let queue = c.put.ensures ∙ (λ i. queue_with (arrived i) (restarted i)) in
+    let members = c.restart.ensures ∙ ap (λ (b : Bool). known_of b c.args.config.now.name []) c.does_forget.ensures in
     record {
       reached =
           reached-open _ _ c.args.config.now
           (λ i. record {
             config = Some (c.copy.ensures i);
             own = c.new-self-inside.ensures i;
-            members = c.restart.ensures i;
-            suspicions = rows_by (c.restart.ensures i).names (c.clear.ensures i);
+            members = members i;
+            suspicions = rows_by (members i).names (c.clear.ensures i);
             queue = queue i;
           })
           c.requires c.self.invariant.reached;
@@ -41,11 +43,12 @@ returns-clause-log c = λ log is.
     let arrived =
     c.own_arrival.ensures ∙ (λ i. own_arrival (c.version-2.ensures i) (c.new-self-inside.ensures i)) in
     let queue = c.put.ensures ∙ (λ i. queue_with (arrived i) (restarted i)) in
+    let members = c.restart.ensures ∙ ap (λ (b : Bool). known_of b c.args.config.now.name []) c.does_forget.ensures in
     (λ i. record {
       config = Some (c.copy.ensures i);
       own = c.new-self-inside.ensures i;
-      members = c.restart.ensures i;
-      suspicions = rows_by (c.restart.ensures i).names (c.clear.ensures i);
+      members = members i;
+      suspicions = rows_by (members i).names (c.clear.ensures i);
       queue = queue i;
     })
     ∙ open-state c.args.config.now log

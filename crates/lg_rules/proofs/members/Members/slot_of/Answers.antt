@@ -1,4 +1,5 @@
 use Rattle.std.proofs.Common.{◌≡◌, ◌≢◌, ◌<◌, ℕ, ap, ◌∙◌, sym, subst, map, length, List, arith, Some, get_or}
+use Rattle.std.specs.Prelude.{slice_get}
 use Rattle.std.proofs.lemmas.List.{length-map, get_or_default}
 use Rattle.lg_rules.specs.declared.claim.Claim.{Claim}
 use Rattle.lg_rules.specs.Meaning.Claim.{name_of}
@@ -8,8 +9,12 @@ use Rattle.lg_rules.specs.Support.Places.{HasRow, LacksRow}
 use Rattle.lg_rules.specs.Support.Slots.{held_names}
 use Rattle.lg_rules.proofs.KeyOrder.{names_equal, names_differ}
 use Rattle.lg_rules.proofs.Numbering.{key-at, keys-apart, length-slots, numbered-at, unknown}
-use Rattle.lg_rules.proofs.SlotLaws.{slot-alone, slot-first, slot-named, slot-none}
+use Rattle.lg_rules.proofs.SlotLaws.{Slots, slot-alone, slot-first, slot-named, slot-none}
 use Rattle.lg_rules.proofs.members.Members.slot_of.Goals as goal
+
+-- the slots behind the own one
+abbrev others : List Claim → List ℕ → Slots
+others rows indexes = map (slice_get (map name_of rows)) indexes
 
 pub returns-in-Ok-clause-slot : goal.returns-in-Ok-clause-slot
 returns-in-Ok-clause-slot c =
@@ -29,7 +34,7 @@ returns-in-Ok-clause-slot c =
 
 pub returns-in-Ok-clause-own : goal.returns-in-Ok-clause-own
 returns-in-Ok-clause-own c =
-    subst (λ (k : MembersValue). slot_in k.own k.names ≡ Some 0) c.self.view_is (slot-first c.self.inside.own _)
+    subst (λ (k : MembersValue). slot_in k.own k.names ≡ Some 0) c.self.view_is (slot-first c.self.inside.own (others c.self.inside.records.items c.self.inside.indexes))
 
 pub returns-in-Ok-clause-named : goal.returns-in-Ok-clause-named
 returns-in-Ok-clause-named c =
@@ -46,12 +51,12 @@ returns-in-Err-clause-slot c =
     let names = held_names own (map name_of c.self.inside.records.items) c.self.inside.indexes in
     let is : n ≡ own = names_equal n own (sym c.eq.ensures ∙ c.if-eq.true) in
     ap Some c.own.ensures
-    ∙ sym (ap (λ k. slot_in k names) is ∙ slot-first own _)
+    ∙ sym (ap (λ k. slot_in k names) is ∙ slot-first own (others c.self.inside.records.items c.self.inside.indexes))
     ∙ ap (λ (k : MembersValue). slot_in n k.names) c.self.view_is
 
 pub returns-in-Err-clause-own : goal.returns-in-Err-clause-own
 returns-in-Err-clause-own c =
-    subst (λ (k : MembersValue). slot_in k.own k.names ≡ Some 0) c.self.view_is (slot-first c.self.inside.own _)
+    subst (λ (k : MembersValue). slot_in k.own k.names ≡ Some 0) c.self.view_is (slot-first c.self.inside.own (others c.self.inside.records.items c.self.inside.indexes))
 
 pub returns-in-Err-clause-named : goal.returns-in-Err-clause-named
 returns-in-Err-clause-named c =
@@ -77,4 +82,4 @@ returns-in-Err-2-clause-slot c =
 
 pub returns-in-Err-2-clause-own : goal.returns-in-Err-2-clause-own
 returns-in-Err-2-clause-own c =
-    subst (λ (k : MembersValue). slot_in k.own k.names ≡ Some 0) c.self.view_is (slot-first c.self.inside.own _)
+    subst (λ (k : MembersValue). slot_in k.own k.names ≡ Some 0) c.self.view_is (slot-first c.self.inside.own (others c.self.inside.records.items c.self.inside.indexes))

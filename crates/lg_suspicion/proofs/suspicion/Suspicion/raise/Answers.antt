@@ -1,4 +1,5 @@
 use Rattle.std.proofs.Common.{◌≡◌, List, [], ◌∷◌, ◌++◌, ℕ, ap, sym, subst, ◌∙◌, arith}
+use Rattle.lg_rules.proofs.SlotLaws.{Slots}
 use Rattle.lg_timing.specs.Meaning.Timeouts.{range_of}
 use Rattle.lg_suspicion.specs.Meaning.Accusers.{SuspicionValue}
 use Rattle.lg_suspicion.specs.Meaning.Parts.{SuspicionParts, accuser_count, suspicion_by, IsKnownTo}
@@ -28,7 +29,7 @@ invariant_of-result c =
     let count : accuser_count (parts c) ≡ 1 = ap accuser_count (is_once c) ∙ omega (arith, once-count) in
     record { some = omega (arith, count); counted = omega (arith, count) }
 
-is_raised : (c : After-new-2) (names : List (List ℕ))
+is_raised : (c : After-new-2) (names : Slots)
     → suspicion_by names (parts c)
     ≡ record {
       raised = c.args.now;

@@ -1,5 +1,0 @@
-use Rattle.lg_suspicion.specs.Meaning.Parts.{IsKnownTo}
-use Rattle.lg_detector_tests.proofs.suspicion.after_steps.Given as goal
-
-abbrev pub invariant-loop-step : goal.invariant-loop-step
-invariant-loop-step l = IsKnownTo l.members.names l.suspicion
