@@ -1,10 +1,13 @@
-//! Tests of the histories, the published views and the agent, over their public calls.
+//! Tests of the histories, the published views and the agent, over their public calls; and of detectors to which memory
+//! is refused.
 #![tactic(auto)]
 
 #[cfg(test)]
 mod agent;
 #[cfg(test)]
 mod comparing;
+#[cfg(test)]
+mod detector;
 #[cfg(test)]
 mod history;
 #[cfg(test)]

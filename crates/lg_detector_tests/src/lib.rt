@@ -5,5 +5,3 @@
 mod detector;
 #[cfg(test)]
 mod playing;
-#[cfg(test)]
-mod refused_memory;

@@ -1,19 +1,16 @@
-//! Detectors that go on from a summary: as accusers and Acks come, in plays of their own, and after memory was refused.
-//! Each play of a b that is opened at 0 is resumed too.
+//! Detectors that go on from a summary: as accusers and Acks come, and in plays of their own. Each play of a b that is
+//! opened at 0 is resumed too.
 mod comebacks;
 mod scripts;
 
-use crate::playing::{play, play_blank, play_on, resume_each};
+use crate::playing::{play, play_blank, resume_each};
 use comebacks::COMEBACKS;
-use lg_detector::{Detector, NoMemory};
 use lg_detector_testing::DetectorCase;
-use lg_detector_testing::Happens::{First, Opens, Ping, Tick};
-use lg_detector_testing::Step::{self, Acks, Changed, Fired, Hears, Next, Sent, Takes, Ticks};
-use lg_testing::Due::{Direct, RoundEnd, Suspicion};
-use lg_testing::bodies::Says;
+use lg_detector_testing::Happens::{Ping, Tick};
+use lg_detector_testing::Step::{Acks, Changed, Fired, Hears, Next, Takes};
+use lg_testing::Due::Suspicion;
 use lg_testing::says::Said::{Alive, Failed, Suspect};
 use scripts::{DEATH, EXAMPLES, SCRIPTS};
-use std::alloc::Global;
 
 /// In the first play, accusers of c come one after another, and each brings the deadline nearer. In the second, Acks
 /// tell of c, and a claim about it may be sent four times among two members.
@@ -78,49 +75,4 @@ fn goes_on_in_each_script(rt: HostRuntime) {
 fn goes_on_in_each_comeback(rt: HostRuntime) {
     play_blank(&rt, rt.alloc(), COMEBACKS);
     resume_each(&rt, rt.alloc(), &None, COMEBACKS);
-}
-
-/// c is probed, and acks nothing.
-const PROBED: &[Step<'static>] = &[
-    Takes(Opens(0, &[])),
-    Takes(Ping(0, 1, "z", &[Alive("c", 0)])),
-    Takes(First(0)),
-    Next(500),
-];
-
-/// What follows from that.
-const NOT_ACKED: &[Step<'static>] = &[
-    Ticks(500, Direct(500), &[], 1000),
-    Ticks(1000, RoundEnd(1000), &[Suspect("c", 0, "b")], 1000),
-    Takes(First(1000)),
-    Sent(0, 7000, Says::Ping(2, "c"), &[Suspect("c", 0, "b")]),
-    Next(2000),
-];
-
-/// A detector that is resumed from a summary of this one. If memory is refused once, it is asked for again.
-fn resumed_from(alloc: Global, whole: &Detector) -> Result<Detector, NoMemory> {
-    let summary = match whole.summary(alloc) {
-        Ok(summary) => summary,
-        Err(_) => whole.summary(alloc)?,
-    };
-    match Detector::resume(alloc, &summary) {
-        Ok(resumed) => Ok(resumed),
-        Err(_) => Detector::resume(alloc, &summary),
-    }
-}
-
-/// If memory is refused to a summary or to a resumed detector, the detector and the summary stay as they were.
-#[test]
-fn resumes_after_refused_memory(rt: HostRuntime) {
-    let mut shown = false;
-    for _ in 0..2 {
-        if let Ok(mut whole) = Detector::blank(rt.alloc()) {
-            play_on(&rt, &mut whole, "before", PROBED);
-            let mut resumed = resumed_from(rt.alloc(), &whole).expect(&rt, "one refusal at most");
-            play_on(&rt, &mut whole, "as it was", NOT_ACKED);
-            play_on(&rt, &mut resumed, "resumed", NOT_ACKED);
-            shown = true;
-        }
-    }
-    assert!(rt; shown);
 }
