@@ -6,6 +6,18 @@ use std::net::{IpAddr, Ipv4Addr, Ipv6Addr, SocketAddr};
 /// 2001:db8::1, an address for documents (RFC 3849).
 const DOCUMENT: [u8; 16] = [0x20, 0x01, 0x0d, 0xb8, 0, 0, 0, 0, 0, 0, 0, 0, 0, 0, 0, 1];
 
+/// It has two runs of zeros of one length, of which the first is shortened (RFC 5952, section 4.2.3).
+const TWO_RUNS: [u8; 16] = [0x20, 0x01, 0x0d, 0xb8, 0, 0, 0, 0, 0, 1, 0, 0, 0, 0, 0, 1];
+
+/// No group of it is 0.
+const NO_RUN: [u8; 16] = [0x20, 0x01, 0x0d, 0xb8, 0, 1, 0, 1, 0, 1, 0, 1, 0, 1, 0, 1];
+
+/// One group of it is 0, which isn't shortened (RFC 5952, section 4.2.2).
+const ONE_ZERO: [u8; 16] = [0x20, 0x01, 0x0d, 0xb8, 0, 0, 0, 1, 0, 1, 0, 1, 0, 1, 0, 1];
+
+/// An address of one link.
+const OF_A_LINK: [u8; 16] = [0xfe, 0x80, 0, 0, 0, 0, 0, 0, 0, 0, 0, 0, 0, 0, 0xab, 0xcd];
+
 /// ::ffff:192.0.2.1, which maps an IPv4 address.
 const MAPPED: [u8; 16] = [0, 0, 0, 0, 0, 0, 0, 0, 0, 0, 0xff, 0xff, 192, 0, 2, 1];
 
@@ -22,6 +34,25 @@ const ADDRESSES: &[(Ip, &str, &str, bool)] = &[
     (Ip::V4([0; 4]), "0.0.0.0", "0.0.0.0:7946", false),
     (Ip::V6([0; 16]), "::", "[::]:7946", false),
     (Ip::V6(DOCUMENT), "2001:db8::1", "[2001:db8::1]:7946", false),
+    (
+        Ip::V6(TWO_RUNS),
+        "2001:db8::1:0:0:1",
+        "[2001:db8::1:0:0:1]:7946",
+        false,
+    ),
+    (
+        Ip::V6(NO_RUN),
+        "2001:db8:1:1:1:1:1:1",
+        "[2001:db8:1:1:1:1:1:1]:7946",
+        false,
+    ),
+    (
+        Ip::V6(ONE_ZERO),
+        "2001:db8:0:1:1:1:1:1",
+        "[2001:db8:0:1:1:1:1:1]:7946",
+        false,
+    ),
+    (Ip::V6(OF_A_LINK), "fe80::abcd", "[fe80::abcd]:7946", false),
     (
         Ip::V6(MAPPED),
         "::ffff:192.0.2.1",

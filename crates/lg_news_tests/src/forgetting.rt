@@ -280,14 +280,39 @@ const COUNTS_ITS_ACK: DetectorCase = (
     ],
 );
 
-/// A helper that was forgotten counts by its name: its missing Nack costs the score one more.
+/// A helper that was asked and is forgotten then counts by its name: its missing Nack costs the score one more.
 const COUNTS_ITS_NACK: DetectorCase = (
-    "a helper",
+    "a helper that was forgotten",
     &[
-        Takes(Opens(0, SLOWLY)),
+        Takes(Opens(
+            0,
+            &[
+                Own("a", 7001),
+                Wire(3),
+                GossipMs(0),
+                Interval(3000),
+                Timeout(500),
+                ForgetMs(1000),
+                Seed("b", 7002),
+                Seed("c", 7003),
+            ],
+        )),
         Takes(TickBy(0, SECOND)),
-        Takes(First(2000)),
-        Takes(FromIn(2040, Three, "b", 7002, Gossip, B_LEFT)),
+        Replies(
+            First(500),
+            Direct(500),
+            &[("a", 7002, Request(1, "c", 7003), &[AliveAt("a", 7001)])],
+            &[],
+            3000,
+        ),
+        Replies(
+            FromIn(550, Three, "b", 7002, Gossip, B_LEFT),
+            Nothing,
+            &[],
+            B_LEFT,
+            1550,
+        ),
+        Ticks(1550, Forget(1550, "b"), &[], 3000),
         Ticks(3000, RoundEnd(3000), &[SuspectAt("c", 0, "a", 7003)], 3000),
         Takes(Health(3000)),
         AnswersHealth(2, 0, 2),

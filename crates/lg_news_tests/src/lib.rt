@@ -32,7 +32,11 @@ mod rooms;
 #[cfg(test)]
 mod sending;
 #[cfg(test)]
+mod slots;
+#[cfg(test)]
 mod slow_news;
+#[cfg(test)]
+mod strangers;
 #[cfg(test)]
 mod streams;
 #[cfg(test)]

@@ -152,6 +152,19 @@ const CLAIMS: &[(Said, Said, bool, Heard)] = &[
     (Left("c", 4), Failed("c", 4), false, Heard::Ignored),
     (Left("c", 4), Alive("c", 5), true, Heard::Overrode),
     (Left("c", 4), Failed("c", 5), true, Heard::Overrode),
+    (SUSPECTED, Alive("c", 3), false, Heard::Ignored),
+    (SUSPECTED, Left("c", 3), false, Heard::Ignored),
+    (SUSPECTED, Left("c", 5), true, Heard::Overrode),
+    (Failed("c", 4), Alive("c", 3), false, Heard::Ignored),
+    (Failed("c", 4), Suspect("c", 3, "d"), false, Heard::Ignored),
+    (Failed("c", 4), Left("c", 3), false, Heard::Ignored),
+    (Failed("c", 4), Left("c", 5), true, Heard::Overrode),
+    (Left("c", 4), Alive("c", 3), false, Heard::Ignored),
+    (Left("c", 4), Suspect("c", 3, "d"), false, Heard::Ignored),
+    (Left("c", 4), Failed("c", 3), false, Heard::Ignored),
+    (Left("c", 4), Left("c", 3), false, Heard::Ignored),
+    (Left("c", 4), Suspect("c", 5, "d"), true, Heard::Overrode),
+    (Left("c", 4), Left("c", 5), true, Heard::Overrode),
 ];
 
 #[test]
