@@ -24,15 +24,16 @@ UNASKED = 100
 
 class Lone:
     """A node b that runs alone, which has a status server unless it is to have none. `keys` are lines of its
-    configuration, and `seeds` its seeds, of whom none runs. Its input is empty unless it is to stay open."""
+    configuration, and `seeds` its seeds, of whom none runs. Its input is empty unless it is to stay open. If its keys
+    name a group, `group` is that one."""
 
-    def __init__(self, program, *options, keys=QUIET, seeds=(), has_status=True, has_input=False):
+    def __init__(self, program, *options, keys=QUIET, seeds=(), has_status=True, has_input=False, group=""):
         [self.port], [self.status] = free_ports(1), free_status_ports(1)
         text = file_of("b", self.port, seeds, f'{keys}status = "{HOST}:{self.status}"\n' if has_status else keys)
         self.node = Node(program, text, "--for-ms", str(LIFE_MS), *options, has_input=has_input)
         self.silent = bound_socket()
         try:
-            wait_for("b", self.port)
+            wait_for("b", self.port, group)
         except RuntimeError as error:
             raise RuntimeError(f"{error}: {self.node.kill()}") from error
 

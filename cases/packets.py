@@ -27,9 +27,9 @@ def packet(kind, body, claims=(), sender="z", version=1, group=""):
             + b"".join(claims))
 
 
-def ping(number, target, claims=(), version=1):
+def ping(number, target, claims=(), version=1, group=""):
     """A Ping."""
-    return packet(PING, number.to_bytes(4, "big") + name_bytes(target), claims, version=version)
+    return packet(PING, number.to_bytes(4, "big") + name_bytes(target), claims, version=version, group=group)
 
 
 def long_ping_req(number, target, group=""):

@@ -173,9 +173,11 @@ def wait_until(holds, seconds):
     return time.monotonic() - begun
 
 
-def wait_for(name, port):
-    """Waits until the node of a name answers at a port. One that doesn't in twenty seconds fails the check."""
-    if wait_until(lambda: asked(ping(1, name), port, 0.05), 20) is None:
+def wait_for(name, port, group=""):
+    """Waits until the node of a name, and of a group if one is named, answers at a port. One that doesn't in twenty
+    seconds fails the check."""
+    knock = ping(1, name, version=3, group=group) if group else ping(1, name)
+    if wait_until(lambda: asked(knock, port, 0.05), 20) is None:
         raise RuntimeError(f"{name} doesn't answer at port {port}")
 
 

@@ -35,7 +35,7 @@ use std::sync::{Mutex, Wait};
 /// refused call makes no entry, and changes nothing.
 ///
 /// A call has two forms. One returns a [`Receipt`], with the reply in it. The other, whose name ends in `_into`, writes
-/// the reply over one that its caller keeps, and returns the position of the call's entry. A reply takes some 5 KB, so
+/// the reply over one that its caller keeps, and returns the position of the call's entry. A reply takes some 12 KB, so
 /// a loop that keeps one copies less. If a call of the second form is refused, the reply is as it was.
 #[derive(Drop)]
 pub struct Pass<'a, A: AgentName>

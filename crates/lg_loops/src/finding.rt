@@ -2,7 +2,7 @@
 //!
 //! Defined in: `specs/Meaning/Pulling.antt`, `specs/Meaning/Turns.antt`, `specs/Support/Acted.antt`.
 //! Tested in: `lg_node_tests/src/node/finding.rt`, `cases/groups`.
-ghost use Rattle.std.specs.Prelude.{◌≡◌, ◌<◌, [], true, length, MatchOption};
+ghost use Rattle.std.specs.Prelude.{◌≡◌, ◌<◌, ◌||◌, [], true, not, length, MatchOption};
 ghost use Rattle.std.specs.List.{list_all};
 ghost use Rattle.lg_detector.specs.Meaning.Step.{view_after};
 ghost use Rattle.lg_agent.specs.Meaning.Values.{PassValue};
@@ -11,7 +11,7 @@ ghost use Rattle.lg_loops.specs.declared.plan.Plan.{Plan as Planned};
 ghost use Rattle.lg_loops.specs.declared.agenda.Duty.TheVariants as duty;
 ghost use Rattle.lg_loops.specs.Meaning.Pulling.{others_of, has_gone, IsChosen};
 ghost use Rattle.lg_loops.specs.Meaning.Turns.{line, words_in, SeesNoneDue, Threw};
-ghost use Rattle.lg_loops.specs.Support.Acted.{Acted, IsDuty};
+ghost use Rattle.lg_loops.specs.Support.Acted.{Acted, IsDuty, IsNextAgenda};
 
 use crate::agenda::Agenda;
 use crate::calling;
@@ -41,11 +41,19 @@ fn others<A: AgentName>(pass: &mut Pass<'_, A>, alloc: Global, own: &Name) -> Op
     Some(records)
 }
 
+/// Whether each of these members is gone, also if there is none.
+fn are_gone(others: &[Record]) -> bool
+    ensures { result ≡ list_all has_gone others.now }
+{
+    others.iter().all(|record| record.status.is_gone())
+}
+
 /// Whether the seeds are to be asked: if no Page was heard, or if each of the other members is gone.
 fn wants_seeds(others: &[Record], page_heard: bool) -> bool
-    ensures { list_all has_gone others.now ≡ true → result ≡ true }
+    ensures is { result ≡ (not page_heard || list_all has_gone others.now) }
+    ensures alone { list_all has_gone others.now ≡ true → result ≡ true }
 {
-    !page_heard || others.iter().all(|record| record.status.is_gone())
+    !page_heard || are_gone(others)
 }
 
 /// The address of the member that random words choose.
@@ -79,23 +87,21 @@ pub(crate) fn ask_seed<A: AgentName, R: Wait, L: Link, C>(
     }
 }
 
-/// Asks the seed whose turn it is, whether it is known or not.
+/// Asks the seed whose turn it is, whether it is known or not. That it is asked now has been noted in the agenda.
 pub(crate) fn ask_in_turn<A: AgentName, R: Wait, L: Link, C>(
     shared: &Shared<'_, R, C>,
     side: &mut Side<'_, L, A>,
-    plan: &Plan,
-    agenda: &mut Agenda,
     now: Moment,
     peer: Addr,
     reply: &mut Reply,
 ) -> Turned
-    ensures { (p : PassValue) → SeesNoneDue p now side.old.pass → now < plan.now.until
-        → IsDuty plan.now agenda.old now (duty.SeedInTurn peer)
-        → (acted : Acted plan.now plan.now L.tells (line (L.log side.old.link) (L.failed side.old.link))
-        (line (L.log side.new.link) (L.failed side.new.link)) p side.new.pass agenda.old agenda.new result)
+    ensures { (plan : Planned) → (agenda : Agenda) → (noted : Agenda) → (p : PassValue)
+        → SeesNoneDue p now side.old.pass → now < plan.until → IsDuty plan agenda now (duty.SeedInTurn peer)
+        → IsNextAgenda plan now agenda noted
+        → (acted : Acted plan plan L.tells (line (L.log side.old.link) (L.failed side.old.link))
+        (line (L.log side.new.link) (L.failed side.new.link)) p side.new.pass agenda noted result)
         × (words_in acted.took.turn ≡ []) }
 {
-    agenda.note_asking(plan, now);
     match calling::pull(shared, &mut side.pass, now, peer, reply) {
         Ok(_) => Turned::of(shared, &mut side.link, now, reply),
         Err(refusal) => Turned::refused(shared, refusal),

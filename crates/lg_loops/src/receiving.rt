@@ -39,10 +39,10 @@ fn hear<A: AgentName, R: Wait, L: Link, C>(
 {
     match calling::datagram(shared, &mut side.pass, now, source, bytes, reply) {
         Ok(heard) => {
+            // The detector has dropped a packet of another group, so a Page of one brought no table.
             if heard.group != shared.group {
                 shared.counters.note_other_group();
-            }
-            if heard.is_page {
+            } else if heard.is_page {
                 shared.page_heard.store(true, SeqCst);
             }
             Turned::of(shared, &mut side.link, now, reply)

@@ -82,7 +82,8 @@ fn tick_turn<A: AgentName, R: Wait, L: Link, C: Clock, D: Dice>(
         Duty::Seed(peer) => ask_seed(shared, &mut ticker.side, agenda, now, peer, reply),
         Duty::Look => look(shared, &mut ticker.side, plan, agenda, now),
         Duty::SeedInTurn(peer) => {
-            ask_in_turn(shared, &mut ticker.side, plan, agenda, now, peer, reply)
+            agenda.note_asking(plan, now);
+            ask_in_turn(shared, &mut ticker.side, now, peer, reply)
         }
         Duty::Member => ask_member(shared, ticker, plan, agenda, now, reply),
         Duty::Rest(limit) => {
@@ -181,9 +182,9 @@ fn next_turn<A: AgentName, R: Wait, L: Link, C: Clock, D: Dice>(
 /// A turn makes one tick if a deadline has come. Otherwise it does the first of these that is to be done:
 /// 1. It asks a seed that waits for this, with a Pull.
 /// 2. It looks at the members, once in [`LOOK_MS`](crate::LOOK_MS) milliseconds. If no Page was heard so far, or each
-///    other member that it knows has failed, all seeds wait to be asked.
+///    other member that it knows is gone, all seeds wait to be asked.
 /// 3. It asks a seed and a member in turn for a table, the seed first. The seeds take turns among each other. A member
-///    is one that random words choose of all that it knows, failed ones too; if it knows nobody, nobody is asked. It
+///    is one that random words choose of all that it knows, gone ones too; if it knows nobody, nobody is asked. It
 ///    does so one interval after it began, or after a look by which all seeds waited. Each further time comes twice as
 ///    long after the one before, but at most `plan.pull_ms` milliseconds after it.
 /// 4. It pauses, until the first of these is due, `shared.wait_ms` milliseconds at most.
@@ -201,8 +202,9 @@ fn next_turn<A: AgentName, R: Wait, L: Link, C: Clock, D: Dice>(
 /// It ends with [`Why::Refused`] if a call was refused or a look at the next deadline, and with [`Why::Ousted`] after a
 /// reply that says so. A call is refused if memory is, for it or for the rotation. It is also refused if the history is
 /// still full after a rotation: another pass has filled it meanwhile, or there were as many events as a detector
-/// accepts. It ends with [`Why::ReadBound`] only if it isn't endless. It leaves at none of these ends. However the loop
-/// ends, it sets the flag by which the receiving loop ends.
+/// accepts. It ends with [`Why::ReadBound`] only if it isn't endless. It leaves at none of these ends. But if the
+/// receiving loop has met the reply that says so first, that one sets the stop flag, and this loop leaves as at any
+/// other stop. However the loop ends, it sets the flag by which the receiving loop ends.
 pub fn tick_loop<A: AgentName, R: Wait, L: Link, C: Clock, D: Dice + Drop>(
     shared: &Shared<'_, R, C>,
     side: Side<'_, L, A>,

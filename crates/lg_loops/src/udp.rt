@@ -3,6 +3,8 @@
 //! Defined in: `specs/Meaning/Turns.antt`.
 //! Tested in: `lg_node_tests/src/node/asking.rt`, `cases/nodes`.
 ghost use Rattle.std.specs.Prelude.{◌≡◌, ◌+◌, MatchBool};
+ghost use Rattle.std.specs.Net.Socket.{socket_ip, socket_port};
+ghost use Rattle.lg_loops.specs.Meaning.Links.{HasBytesOf};
 
 use crate::link::{Link, LinkFault, MAX_DATAGRAM};
 use lg_rules::Addr;
@@ -61,7 +63,10 @@ impl<'a> UdpLink<'a> {
 }
 
 /// The address from which a datagram came.
-fn source_of(from: SocketAddr) -> Addr {
+fn source_of(from: SocketAddr) -> Addr
+    ensures ip { HasBytesOf result.ip (socket_ip from) }
+    ensures port { result.port ≡ socket_port from }
+{
     match from.ip() {
         IpAddr::V4(ip) => Addr::v4(ip.octets(), from.port()),
         IpAddr::V6(ip) => Addr::v6(ip.octets(), from.port()),

@@ -117,11 +117,6 @@ pub enum NodeFault {
 /// receiving loop sets too if it ends by itself. A node with another `wire` tells nobody that it ends: versions 1 and 2
 /// can't spell it.
 ///
-/// If the configuration's `wire` is 3, this member leaves its group when the ticking loop is told to stop, or its end
-/// time comes (this project's choice): it tells at most eight members at once, and [`NodeEnd::members`] has its own
-/// record as left. The loop is told to stop by the stop flag, which the receiving loop sets too if it ends by itself. A
-/// node with another `wire` tells nobody that it ends: versions 1 and 2 can't spell it.
-///
 /// If the node is followed, the pass that has asked the seeds watches beside the loops ([`lg_follow::watch`]), in a
 /// thread of its own, and [`NodeEnd::watched`] says how that ended. A writer that fails ends the watcher alone. If the
 /// node isn't followed, or there are no loops, the writer stays as it is.

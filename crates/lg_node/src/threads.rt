@@ -237,8 +237,7 @@ where
             };
             tell_ended(shared, signal);
             let watched = join_or_do(shared.rt, watching);
-            let served = join_or_do(shared.rt, serving);
-            (both, (watched, served))
+            (both, (watched, join_or_do(shared.rt, serving)))
         },
     )
 }

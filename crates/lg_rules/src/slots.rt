@@ -1,6 +1,6 @@
 //! Slots: the known names as numbers.
 //!
-//! Defined in: `specs/Meaning/Table.antt`.
+//! Defined in: `specs/Meaning/Slots.antt`, `Table.antt`.
 //! Tested in: `lg_parts_tests/src/rules.rt`.
 ghost use Rattle.std.specs.Prelude.{◌≡◌, ◌≤◌, ◌<◌, ◌+◌, ◌==◌, map, insert, remove, slice_index_or, slice_set};
 ghost use Rattle.std.specs.List.{position};

@@ -2,7 +2,11 @@
 use Rattle.std.specs.Prelude.{◌≡◌, ℕ, ◌+◌, Bool, true, not}
 use Rattle.std.specs.Prelude.{List, [], ◌∷◌, ◌++◌, length, take, count_by}
 use Rattle.std.specs.Prelude.{Option, Some, None, Result, Ok, Err}
+use Rattle.std.specs.declared.net.ip_addr.IpAddr.{IpAddr}
+use Rattle.std.specs.Net.Addr.{ipv4_octets, ipv6_octets, IsV4And, IsV6And}
 use Rattle.lg_rules.specs.declared.addr.Addr.{Addr}
+use Rattle.lg_rules.specs.declared.addr.Ip.{Ip}
+use Rattle.lg_rules.specs.declared.addr.Ip.TheVariants.{V4, V6}
 use Rattle.lg_packet.specs.Meaning.Spelling.{spelling}
 use Rattle.lg_detector.specs.declared.reply.Outgoing.{Outgoing}
 use Rattle.lg_loops.specs.declared.link.LinkFault.{LinkFault}
@@ -14,6 +18,11 @@ pub data LinkEvent : Type 0 where
   Silent : ℕ → LinkEvent
   Failed : LinkEvent
   Handed : Addr → List ℕ → Bool → LinkEvent
+
+-- the IP address of a family that has the bytes of one of the standard library, which is of the same family
+abbrev pub HasBytesOf : Ip → IpAddr → Type 0
+HasBytesOf (V4 octets) given = IsV4And given (λ ip. octets ≡ ipv4_octets ip)
+HasBytesOf (V6 octets) given = IsV6And given (λ ip. octets ≡ ipv6_octets ip)
 
 -- what a call of `receive` was, by how long it waits at most, what it returns and what it leaves in the buffer
 abbrev pub reception : ℕ → Result (Option (Addr × ℕ)) LinkFault → List ℕ → LinkEvent

@@ -207,7 +207,7 @@ pub record MayAskInTurn (plan : Plan) (since : ℕ) (before : List Turn) (now : 
   pub seed : IsSeedInTurn plan (askings_after since before) peer
 
 -- Whether a turn is one that the turns before it leave to be done by a plan, at its moment, before the plan's end time,
--- and for whom it asks. If all others that a look shows have failed, the seeds are to be asked. (Else they are if no
+-- and for whom it asks. If all others that a look shows are gone, the seeds are to be asked. (Else they are if no
 -- Page has been heard, which contracts don't see.) This member leaves only if its plan says so.
 abbrev pub IsTimely : Plan → ℕ → List Turn → Turn → Type 0
 IsTimely plan since before (Paused now) = (now < plan.until) × IsIdleTime plan since before now

@@ -3,7 +3,7 @@ use Rattle.std.specs.Prelude.{◌≡◌, ℕ, Bool, false, ◌==◌, List, [], �
 use Rattle.std.specs.declared.net.ip_addr.IpAddr.{IpAddr}
 use Rattle.std.specs.declared.net.socket_addr.SocketAddr.{SocketAddr}
 use Rattle.std.specs.Net.Addr.{ipv4_octets, ipv6_segments, segments_of, IsV4And, IsV6And}
-use Rattle.std.specs.Net.Socket.{socket_ip, socket_port}
+use Rattle.std.specs.Net.Socket.{socket_ip, IsPlainSocket}
 use Rattle.std.specs.Str.{bytes_eq}
 use Rattle.lg_rules.specs.declared.addr.Addr.{Addr}
 use Rattle.lg_rules.specs.declared.addr.Ip.{Ip}
@@ -29,7 +29,7 @@ abbrev pub IsIpOf : Ip → IpAddr → Type 0
 IsIpOf (V4 octets) given = IsV4And given (λ ip. ipv4_octets ip ≡ octets)
 IsIpOf (V6 octets) given = IsV6And given (λ ip. ipv6_segments ip ≡ segments_of octets)
 
--- the same IP address, and the same port
+-- the same IP address and the same port; one of IPv6 has no flow information and no scope
 pub record IsSocketOf (addr : Addr) (socket : SocketAddr) : Type 0 where
   pub ip : IsIpOf addr.ip (socket_ip socket)
-  pub port : socket_port socket ≡ addr.port
+  pub port : IsPlainSocket socket addr.port

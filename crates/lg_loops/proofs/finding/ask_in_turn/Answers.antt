@@ -6,7 +6,7 @@ use Rattle.lg_loops.proofs.PullingLaws.{agenda_next, seed_time}
 use Rattle.lg_loops.proofs.finding.ask_in_turn.Goals as goal
 
 pub returns-in-Ok : goal.returns-in-Ok
-returns-in-Ok g c = λ p look low duty.
+returns-in-Ok g c = λ plan agenda noted p look low duty next.
     let h = c.of.ensures.handed in
     let t : Turn = AskedInTurn c.args.now c.args.peer (receipt_of c.in-Ok.field-0 c.pull.new.reply) h.sent in (
       record {
@@ -23,14 +23,14 @@ returns-in-Ok g c = λ p look low duty.
           few_unsent = c.of.ensures.few;
         };
         plans = refl;
-        timely = λ since before was. seed_time c.args.plan.now since before c.args.agenda.now c.args.now c.args.peer low was duty;
-        noted = λ since before was. agenda_next c.args.plan.now since before t c.args.now c.args.agenda.now c.note_asking.new.self was c.note_asking.ensures refl refl refl;
+        timely = λ since before was. seed_time plan since before agenda c.args.now c.args.peer low was duty;
+        noted = λ since before was. agenda_next plan since before t c.args.now agenda noted was next refl refl refl;
       },
       refl,
     )
 
 pub returns-in-Err : goal.returns-in-Err
-returns-in-Err g c = λ p look low duty.
+returns-in-Err g c = λ plan agenda noted p look low duty next.
     let e = c.in-Err.ensures in
     let end = c.refused.ensures in
     let t : Turn = UnaskedInTurn c.args.now c.args.peer c.in-Err.refusal in (
@@ -48,8 +48,8 @@ returns-in-Err g c = λ p look low duty.
           few_unsent = omega (arith, end.unsent);
         };
         plans = refl;
-        timely = λ since before was. seed_time c.args.plan.now since before c.args.agenda.now c.args.now c.args.peer low was duty;
-        noted = λ since before was. agenda_next c.args.plan.now since before t c.args.now c.args.agenda.now c.note_asking.new.self was c.note_asking.ensures refl refl refl;
+        timely = λ since before was. seed_time plan since before agenda c.args.now c.args.peer low was duty;
+        noted = λ since before was. agenda_next plan since before t c.args.now agenda noted was next refl refl refl;
       },
       refl,
     )

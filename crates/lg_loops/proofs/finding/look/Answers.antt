@@ -53,7 +53,7 @@ returns g c = λ p look low duty.
         timely = λ since before was. (
           low,
           look_time c.args.plan.now since before c.args.agenda.now c.args.now was duty,
-          λ all. c.wants_seeds-asks.ensures (ap (list_all has_gone) (c.as_slice.ensures.value ∙ e.0) ∙ all),
+          λ all. c.wants_seeds-asks.ensures.alone (ap (list_all has_gone) (c.as_slice.ensures.value ∙ e.0) ∙ all),
         );
         noted = λ since before was. rw c.note_look.ensures (look_noted c.args.plan.now since before c.args.agenda.now c.args.now c.others.new.pass.seen asks was);
       },

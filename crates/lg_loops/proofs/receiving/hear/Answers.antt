@@ -8,9 +8,9 @@ use Rattle.lg_loops.specs.Meaning.Turns.{receives}
 use Rattle.lg_loops.specs.Meaning.Turns.Turn.{Heard, Dropped, Unheard}
 use Rattle.lg_loops.proofs.receiving.hear.Goals as goal
 
-pub returns-after-heard : goal.returns-after-heard
+pub returns-after-ne : goal.returns-after-ne
 unfolding receives
-returns-after-heard g c = λ log came.
+returns-after-ne g c = λ log came.
     let a = c.in-Ok.ensures.answered in
     let h = c.of.ensures.handed in
     let reply : Reply = c.datagram.new.reply in

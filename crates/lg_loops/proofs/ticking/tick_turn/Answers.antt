@@ -49,7 +49,7 @@ pub returns-in-SeedInTurn : goal.returns-in-SeedInTurn
 returns-in-SeedInTurn g c = λ low.
     let e = c.in-Ok.ensures in
     let sees : SeesNoneDue c.args.ticker.now.side.pass c.args.now c.next_deadline.new.self = record { look = e.1; due = c.in-Ok.deadline; deadline = e.0; later = omega (arith, c.if-deadline-moment.false, c.milliseconds-moment.ensures.milliseconds) } in
-    let acted = c.ask_in_turn.ensures c.args.ticker.now.side.pass sees low c.in-SeedInTurn.ensures in
+    let acted = c.ask_in_turn.ensures c.args.plan.now c.args.agenda.now c.note_asking.new.self c.args.ticker.now.side.pass sees low c.in-SeedInTurn.ensures c.note_asking.ensures in
     (acted.0, rw acted.1 refl)
 
 pub returns-in-Look : goal.returns-in-Look

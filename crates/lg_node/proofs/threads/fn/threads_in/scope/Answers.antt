@@ -5,7 +5,7 @@ use Rattle.lg_node.proofs.threads.fn.threads_in.scope.Goals as goal
 pub returns : goal.returns
 returns g c =
     let watched = subst (λ w. g.V.Work.gives w c.join_or_do-watched.result) (ap (λ p. p.work.value) c.start_if-watching.ensures.promised ∙ c.of.ensures) c.join_or_do-watched.ensures in
-    let served = subst (λ w. g.X.Work.gives w c.join_or_do-served.result) (ap (λ p. p.work.value) c.start_if-serving.ensures.promised ∙ c.of-2.ensures) c.join_or_do-served.ensures in
+    let served = subst (λ w. g.X.Work.gives w c.join_or_do.result) (ap (λ p. p.work.value) c.start_if-serving.ensures.promised ∙ c.of-2.ensures) c.join_or_do.ensures in
     elim c.match-receiving.branch [
       | in-Ok w ↦ record {
         ran = rw (w.both-is, ← c.requires.bound.1, ← c.requires.bound.2) (inl (rw (c.requires.bound.1, c.requires.bound.2) w.join.ensures, w.tick_loop-ticked.ensures));
