@@ -227,6 +227,14 @@ def least_gone(it):
     return min((name for kind, name in it.timers if kind == known.FORGET), default=None)
 
 
+def drops_its_probe(it, name, forget=member.Member.forget):
+    """What is not to be done beside forgetting a name: the probe of it ends, and nobody's score is marked for it."""
+    forget(it, name)
+    if it.probe and it.probe.target == name:
+        it.drop_probe()
+        it.timers[known.ROUND_START, 0] = it.now
+
+
 def counts_from_0(it):
     """What is not the next number of a probe: behind the greatest comes 0."""
     number = it.number_due
@@ -260,6 +268,7 @@ class Scripts(RunKind):
         (member, "MOST_TOLD", 7), (member.Member, "hear_claim", takes_failed),
         (member.Member, "passes_over", lambda *_: False), (member.Member, "set_forget", forgets_always),
         (member.Member, "first_to_forget", least_gone), (member.Member, "forget", known.Known.forget),
+        (member.Member, "forget", drops_its_probe),
         (member.Member, "merged", lambda it, claim, _: claim), (member.Member, "hear_claim", merges_all),
         (member.Member, "drops", lambda *_: False), (numbers, "THREE", TWO),
         (member.Member, "next_number", counts_from_0))
