@@ -95,7 +95,8 @@ fn tick_turn<A: AgentName, R: Wait, L: Link, C: Clock, D: Dice>(
 }
 
 /// The moment of the next turn, or none if the loop is to stop: its end time has come, or, if it heeds the stop flag,
-/// that flag is set.
+/// that flag is set. A loop that doesn't heed it lingers, and the receiving loop may have ended by then, which would
+/// hold a steady clock back for ever. So each turn of it counts as one of both loops.
 fn next_moment<R, C: Clock>(
     shared: &Shared<'_, R, C>,
     until: Moment,
@@ -104,7 +105,9 @@ fn next_moment<R, C: Clock>(
     ensures { IfSome result (λ now. now < until) }
 {
     shared.clock.begin_turn(Loop::Ticking);
-    if heeds_stop && shared.stop.load(SeqCst) {
+    if !heeds_stop {
+        shared.clock.begin_turn(Loop::Receiving);
+    } else if shared.stop.load(SeqCst) {
         return None;
     }
     let now = shared.clock.now();
