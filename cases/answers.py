@@ -13,7 +13,8 @@ from running import table_of
 
 # Which clients ask the two nodes that live on.
 ASKING = [(by_python, "a"), (by_python, "b"), (by_curl, "b"), (by_bytes, "a")]
-OPERATING = pathlib.Path(__file__).resolve().parent.parent / "docs" / "OPERATING.md"
+DOCUMENTS = pathlib.Path(__file__).resolve().parent.parent / "docs"
+OPERATING, FORMATS = DOCUMENTS / "OPERATING.md", DOCUMENTS / "FORMATS.md"
 
 JSON = "application/json"
 HTML = "text/html; charset=utf-8"
