@@ -12,3 +12,4 @@ pub mod SetFlags
 pub mod TestLaws
 pub mod Without
 pub mod WordFlags
+pub mod Halves

@@ -3,6 +3,7 @@ use Rattle.std.proofs.Common.{
   ◌≡◌,
   ◌≢◌,
   ℕ,
+  zero,
   suc,
   ◌+◌,
   ◌-◌,
@@ -11,6 +12,7 @@ use Rattle.std.proofs.Common.{
   ◌%◌,
   ◌^◌,
   ◌<◌,
+  ◌≤◌,
   Bool,
   true,
   false,
@@ -36,7 +38,8 @@ use Rattle.std.specs.Prelude.{bit_and, bit_or, nat_eq, sum, map, replicate}
 use Rattle.std.specs.Int.Count.{ones}
 use Rattle.std.proofs.lemmas.Nat.Bits.{bit_at_set_same, bit_at_set_other, bit_at_clear_same, bit_at_clear_other}
 use Rattle.std.specs.Int.{bit_at, bit_not}
-use Rattle.std.proofs.lemmas.Bool.{cases_eq, cases_lt}
+use Rattle.std.proofs.lemmas.Bool.{cases_eq, cases_lt, eq-eqb, ne_eqb}
+use Rattle.std.proofs.lemmas.Nat.{ones_le_self, zero_from_ones}
 use Rattle.std.proofs.lemmas.List.{
   ext_get_or,
   get_or_append_left,
@@ -175,6 +178,41 @@ pub count_words : (words : List ℕ) → AreWords words
 count_words words are =
     let counts : sum (map ones words) ≡ _ = ap (λ l. sum (map ones l)) (four_words words are.four) in
     omega (arith, counts, count_flags words are.fit)
+
+-- no number is in the set if no word has a bit, and else one is
+pub none_set : (words : List ℕ) → AreWords words → get_or words 0 0 ≡ 0 → get_or words 1 0 ≡ 0 → get_or words 2 0 ≡ 0
+    → get_or words 3 0 ≡ 0 → nat_eq (count_set (flags_of words)) 0 ≡ true
+none_set words are a b c d =
+    let none : count_set (flags_of words) ≡ 0 =
+    omega (
+      arith,
+      count_words words are,
+      ones_le_self (get_or words 0 0),
+      ones_le_self (get_or words 1 0),
+      ones_le_self (get_or words 2 0),
+      ones_le_self (get_or words 3 0),
+    ) in
+    eq-eqb (count_set (flags_of words)) 0 none
+
+some_bit : (word : ℕ) → word ≢ 0 → 0 < ones word
+some_bit word some = elim (cases_eq (ones word) 0) [
+  | inl none ↦ absurd (some (zero_from_ones word none))
+  | inr more ↦ omega arith
+]
+
+pub some_set : (words : List ℕ) → AreWords words → (i : ℕ) → i < 4 → get_or words i 0 ≢ 0
+    → nat_eq (count_set (flags_of words)) 0 ≡ false
+some_set words are i within some =
+    let one : ones (get_or words i 0) ≤ count_set (flags_of words) = among i within in
+    let count : count_set (flags_of words) ≢ 0 = (λ e. absurd (omega (arith, e, one, some_bit (get_or words i 0) some))) in
+    ne_eqb (count_set (flags_of words)) 0 count
+  where
+    among : (i : ℕ) → i < 4 → ones (get_or words i 0) ≤ count_set (flags_of words)
+    among zero within = omega (arith, count_words words are)
+    among (suc zero) within = omega (arith, count_words words are)
+    among (suc (suc zero)) within = omega (arith, count_words words are)
+    among (suc (suc (suc zero))) within = omega (arith, count_words words are)
+    among (suc (suc (suc (suc i)))) within = absurd (omega arith)
 
 zero_word : word_flags 64 0 ≡ replicate 64 false
 unfolding word_flags

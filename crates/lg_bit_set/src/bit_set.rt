@@ -182,7 +182,12 @@ impl BitSet {
     pub fn is_empty(&self) -> bool
         ensures { result ≡ nat_eq (count_set self.now) 0 }
     {
-        self.len() == 0
+        for word in &self.words {
+            if *word != 0 {
+                return false;
+            }
+        }
+        true
     }
 
     /// The number that has `index` smaller ones in the set, so the least one at 0. None if the set has no more than

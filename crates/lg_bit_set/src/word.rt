@@ -4,20 +4,78 @@
 ghost use Rattle.std.specs.Prelude.{◌≡◌, ℕ, ◌+◌, ◌-◌, ◌<◌, ◌≤◌, count_ones, Some, nat_eq, nat_lt};
 ghost use Rattle.std.specs.Int.{bit_at};
 ghost use Rattle.lg_bit_set.specs.Meaning.Flags.{nth_number};
+ghost use Rattle.lg_bit_set.specs.Support.Steps.{IsOnTheWay};
 ghost use Rattle.lg_bit_set.specs.Support.Words.{word_flags};
 
-/// The place, below 64, of the set bit of a word that has `index` set bits below it.
+/// From how many set bits on it is quicker to pass by places than to clear the bits one by one, as measured.
+const FEW: usize = 16;
+
+/// A word of which some of the lowest places were passed by, on the way to one of its set bits.
+#[derive(Clone, Copy)]
+pub(crate) struct Rest {
+    /// The bits that are left: the first place that wasn't passed by is the lowest.
+    bits: u64,
+    /// How many of them are set below the one that is looked for.
+    below: usize,
+    /// How many places were passed by.
+    passed: usize,
+}
+
+/// Passes by the lowest `width` places of a rest, unless the bit that is looked for is at one of them.
+#[inline(always)]
+fn pass_by(bits: u64, below: usize, passed: usize, width: usize) -> Rest
+    requires width { width < 64 }
+    requires within { passed + width < 64 }
+    requires more { below < count_ones bits }
+    ensures place { IsOnTheWay bits below passed result.bits result.below result.passed }
+    ensures more { result.below < count_ones result.bits }
+    ensures passed { result.passed ≤ passed + width }
+{
+    let count = (bits & ((1 << width) - 1)).count_ones() as usize;
+    if below < count {
+        Rest {
+            bits,
+            below,
+            passed,
+        }
+    } else {
+        Rest {
+            bits: bits >> width,
+            below: below - count,
+            passed: passed + width,
+        }
+    }
+}
+
+/// The place of the set bit of a word that has `below` set bits below it, which are cleared one by one.
+#[inline(always)]
+fn place_after(word: u64, below: usize) -> usize
+    requires { below < count_ones word }
+    ensures place { nth_number (word_flags 64 word) below ≡ Some result }
+    ensures within { result < 64 }
+{
+    let mut rest = word;
+    'bits: for _ in 0..below {
+        rest &= rest - 1;
+    }
+    rest.trailing_zeros() as usize
+}
+
+/// The place, below 64, of the set bit of a word that has `index` set bits below it. If these are many, three steps pass
+/// by most of them, so that at most seven are cleared one by one.
 #[inline(always)]
 pub(crate) fn nth_bit(word: u64, index: usize) -> usize
     requires { index < count_ones word }
     ensures place { nth_number (word_flags 64 word) index ≡ Some result }
     ensures within { result < 64 }
 {
-    let mut rest = word;
-    'bits: for _ in 0..index {
-        rest &= rest - 1;
+    if index < FEW {
+        return place_after(word, index);
     }
-    rest.trailing_zeros() as usize
+    let half = pass_by(word, index, 0, 32);
+    let quarter = pass_by(half.bits, half.below, half.passed, 16);
+    let eighth = pass_by(quarter.bits, quarter.below, quarter.passed, 8);
+    eighth.passed + place_after(eighth.bits, eighth.below)
 }
 
 /// The word whose `count` lowest bits are set, or all of them if there are no more.

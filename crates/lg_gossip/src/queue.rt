@@ -2,7 +2,7 @@
 //!
 //! Defined in: `specs/Meaning/Queue.antt`.
 //! Tested in: `lg_parts_tests/src/gossip.rt`.
-ghost use Rattle.std.specs.Prelude.{◌≡◌, ◌≤◌, ◌<◌, [], length, map, None, option_copied};
+ghost use Rattle.std.specs.Prelude.{◌≡◌, ◌≤◌, ◌<◌, [], false, length, map, None, option_copied, true};
 ghost use Rattle.std.specs.List.{IsDistinct};
 ghost use Rattle.lg_rules.specs.Meaning.Rows.{name_cmp, is_same, row_at};
 ghost use Rattle.lg_rules.specs.Meaning.Claim.{name_of};
@@ -94,7 +94,10 @@ impl Queue {
     /// Whether a claim may still be sent among `live` members, which may be any number: whether it was sent fewer times
     /// than the retransmit limit. If not, a packet without a buddy has no claim.
     pub fn has_news(&self, live: usize) -> bool
-        ensures { result ≡ has_news self.now live }
+        ensures news { result ≡ has_news self.now live }
+        // Without news a packet without a buddy takes no claim, and with news it takes some.
+        ensures none { result ≡ false → fill_of self.now None live ≡ [] }
+        ensures some { result ≡ true → 0 < length (fill_of self.now None live) }
     {
         let limit = send_limit(self.lambda, live);
         is_any_below(self.rows.as_slice(), &self.sent, limit, self.fewest)

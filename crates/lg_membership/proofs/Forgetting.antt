@@ -1,7 +1,8 @@
 -- The rows of suspicions once a name is forgotten, by the names that are left; and whether there is room for a claim.
-use Rattle.std.proofs.Common.{◌≡◌, ◌≢◌, ℕ, Bool, true, false, not, ◌&&◌, ◌||◌, cond, ltb, List, [], ◌∷◌, length, map, get_or, Option, Some, None, inl, inr, refl, sym, ◌∙◌, ap, subst}
+use Rattle.std.proofs.Common.{◌≡◌, ◌≢◌, ℕ, ◌+◌, ◌<◌, Bool, true, false, not, ◌&&◌, ◌||◌, cond, leb, ltb, arith, List, [], ◌∷◌, length, map, get_or, Option, Some, None, inl, inr, refl, sym, ◌∙◌, ap, subst}
 use Rattle.std.specs.List.{refill}
 use Rattle.std.proofs.lemmas.Bool.{cases_Bool}
+use Rattle.std.proofs.lemmas.Bool.Decides.{nat_tests}
 use Rattle.std.proofs.lemmas.List.{length-map}
 use Rattle.lg_rules.specs.declared.claim.Claim.{Claim}
 use Rattle.lg_rules.specs.Meaning.Claim.{is_gone, name_of}
@@ -16,10 +17,10 @@ use Rattle.lg_rules.proofs.Tables.{length-table, row_at-record}
 use Rattle.lg_suspicion.specs.Meaning.Parts.{SuspicionParts, suspicion_by, parts_without, IsKnownTo}
 use Rattle.lg_suspicion.proofs.KnownAccusers.{suspicion-left, known-left, suspicion-moved, known-moved}
 use Rattle.lg_membership.specs.declared.suspected.Suspected.{Suspected}
-use Rattle.lg_membership.specs.Meaning.Log.{GroupLog, me, own, own_facts, forgets, known_others, known, table, needs_room}
+use Rattle.lg_membership.specs.Meaning.Log.{GroupLog, me, own, own_facts, forgets, known_others, known, table, needs_room, has_room_for}
 use Rattle.lg_membership.specs.Support.Rows.{row_without, rows_by, AreKnownTo}
 use Rattle.lg_membership.specs.Support.Reached.{IsGroupReached}
-use Rattle.lg_membership.specs.Support.State.{GroupState, group_state_of, needs_room_in, forget_from_group, without_name}
+use Rattle.lg_membership.specs.Support.State.{GroupState, group_state_of, has_room_in, needs_room_in, forget_from_group, without_name}
 use Rattle.lg_membership.proofs.FactLaws.{own_name}
 use Rattle.lg_membership.proofs.Joining.{refill_same}
 use Rattle.lg_membership.proofs.KnownLaws.{own_known}
@@ -150,3 +151,23 @@ needs_room-log c log = elim (cases_key names_order c.name (me log)) [
   | inl same ↦ rw (same_key names_order c.name (own log).name (same ∙ sym (own_name log))) (needs_room-own log c same)
   | inr other ↦ rw (other_key names_order c.name (own log).name (λ e. other (e ∙ own_name log))) (needs_room-other log c other)
 ]
+
+-- The same of some claims,
+pub has_room-log : (count : ℕ) (log : GroupLog) → has_room_in count (group_state_of log) ≡ has_room_for log count
+has_room-log count log =
+    ap (λ n. not (forgets log) || leb (n + count) 255) (length-table (forgets log) (me log) (own_facts log))
+
+-- and if there is room for them, none of them needs any.
+full_none : (b : Bool) (n k : ℕ) → 0 < k → (not b || leb (n + k) 255) ≡ true → (b && not (ltb n 255)) ≡ false
+full_none false n k some e = refl
+full_none true n k some e = grind (arith, nat_tests, e)
+
+pub room-no_need : (log : GroupLog) (count : ℕ) (c : Claim) → 0 < count → has_room_for log count ≡ true → needs_room log c ≡ false
+room-no_need log count c some roomy =
+    less (forgets log) (not (ltb (length (known_others log)) 255)) (not (is_gone c.status) && not (is_among name_cmp c.name (known log)))
+    (full_none (forgets log) (length (known_others log)) count some roomy)
+  where
+    less : (a b d : Bool) → (a && b) ≡ false → (a && (b && d)) ≡ false
+    less true true d e = absurd cc
+    less true false d e = refl
+    less false b d e = refl

@@ -1,6 +1,6 @@
 -- Where the loops stand: a word whose lowest bits are cleared one by one, and words that are opened or closed.
-use Rattle.std.specs.Prelude.{◌≡◌, ℕ, ◌+◌, ◌-◌, ◌*◌, ◌^◌, ◌<◌, ◌≤◌, List, drop, slice_index, count_ones}
-use Rattle.lg_bit_set.specs.Meaning.Flags.{numbers_of}
+use Rattle.std.specs.Prelude.{◌≡◌, ℕ, ◌+◌, ◌-◌, ◌*◌, ◌^◌, ◌<◌, ◌≤◌, List, drop, slice_index, count_ones, Some}
+use Rattle.lg_bit_set.specs.Meaning.Flags.{numbers_of, nth_number}
 use Rattle.lg_bit_set.specs.Support.Words.{AreWords, bit_flag, word_flags}
 
 -- A word's lowest bits were cleared, so many of them.
@@ -8,6 +8,13 @@ pub record IsLeftOver (word cleared rest : ℕ) : Type 0 where
   pub numbers : numbers_of (word_flags 64 rest) ≡ drop cleared (numbers_of (word_flags 64 word))
   pub count : count_ones rest + cleared ≡ count_ones word
   pub fits : rest < 2 ^ 64
+
+-- Of a word with so many set bits below the one that is looked for, some more places were passed by. Where this one is
+-- in the rest says where it is in the word.
+pub record IsOnTheWay (bits below passed rest left now : ℕ) : Type 0 where
+  pub further : passed ≤ now
+  pub place : (n : ℕ) → nth_number (word_flags 64 rest) left ≡ Some n
+      → nth_number (word_flags 64 bits) below ≡ Some (n + (now - passed))
 
 -- The words from an index on have risen by one bit, and those below are as they were.
 pub record AreRisen (before words : List ℕ) (index : ℕ) : Type 0 where

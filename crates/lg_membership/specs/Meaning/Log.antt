@@ -1,5 +1,6 @@
 -- What a member hears of its group, as facts, and what follows from them.
-use Rattle.std.specs.Prelude.{ℕ, Bool, false, not, ◌&&◌, nat_lt, List, [], ◌∷◌, length, map, filter, Option, Some, None}
+use Rattle.std.specs.Prelude.{ℕ, ◌+◌, Bool, false, not, ◌&&◌, ◌||◌, nat_le, nat_lt}
+use Rattle.std.specs.Prelude.{List, [], ◌∷◌, length, map, filter, Option, Some, None}
 use Rattle.lg_rules.specs.declared.addr.Addr.{Addr}
 use Rattle.lg_rules.specs.declared.addr.Ip.TheVariants.{V4}
 use Rattle.lg_rules.specs.declared.claim.Claim.{Claim}
@@ -113,3 +114,8 @@ abbrev pub needs_room : GroupLog → Claim → Bool
 needs_room log c =
     forgets log && (not (nat_lt (length (known_others log)) most_others)
     && (not (is_gone c.status) && not (is_among name_cmp c.name (known log))))
+
+-- Whether there is room for the members that so many claims bring, one said after another: nobody is ever forgotten, or
+-- at most 255 others are known even if each of these claims brings one.
+abbrev pub has_room_for : GroupLog → ℕ → Bool
+has_room_for log count = not (forgets log) || nat_le (length (known_others log) + count) most_others

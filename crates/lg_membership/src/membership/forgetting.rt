@@ -2,8 +2,9 @@
 //!
 //! Defined in: `specs/Meaning/Log.antt`, `specs/Meaning/Suspicions.antt`, `specs/Meaning/Gossip.antt`.
 //! Tested in: `lg_parts_tests/src/membership/claims.rt`.
-ghost use Rattle.std.specs.Prelude.{◌≡◌, ◌≤◌, ◌∷◌};
-ghost use Rattle.lg_membership.specs.Meaning.Log.{GroupLog, Forgot, forgets_in, needs_room};
+ghost use Rattle.std.specs.Prelude.{◌≡◌, ◌≤◌, ◌<◌, ◌∷◌, false, true};
+ghost use Rattle.lg_rules.specs.declared.claim.Claim.{Claim as Said};
+ghost use Rattle.lg_membership.specs.Meaning.Log.{GroupLog, Forgot, forgets_in, has_room_for, needs_room};
 ghost use Rattle.lg_membership.specs.Support.State.{group_state_of, forget_from_group, has_room_in, needs_room_in};
 
 use super::{Membership, is_same_name};
@@ -37,6 +38,7 @@ impl Membership {
     {
         !is_same_name(&claim.name, &self.own.name()) && self.members.needs_room(claim)
     }
+
     /// Whether this member forgets members that are gone.
     pub fn forgets(&self) -> bool
         ensures { result ≡ forgets_in self.now.config }
@@ -51,7 +53,11 @@ impl Membership {
     /// is forgotten: nobody is ever forgotten, or at most 255 others are known even if each of these claims brings one.
     pub fn has_room_for(&self, count: usize) -> bool
         requires { count ≤ MAX_CLAIMS }
-        ensures { result ≡ has_room_in count self.now }
+        ensures state { result ≡ has_room_in count self.now }
+        ensures log { (log : GroupLog) → self.now ≡ group_state_of log → result ≡ has_room_for log count }
+        // If there is room for some claims, none of them needs it.
+        ensures none { (log : GroupLog) (c : Said) → self.now ≡ group_state_of log → result ≡ true → 0 < count
+            → needs_room log c ≡ false }
     {
         !self.forgets() || self.members.records().len() + count <= MAX_OTHERS
     }

@@ -3,13 +3,14 @@
 //! Defined in: `specs/Meaning/Log.antt`, `specs/Meaning/Gossip.antt`, `lg_rules/specs/Meaning/Table.antt`,
 //! `lg_rules/specs/Meaning/Own.antt`.
 //! Tested in: `lg_parts_tests/src/membership/claims.rt`.
-ghost use Rattle.std.specs.Prelude.{◌≡◌, ◌≤◌, [], length, option_copied};
+ghost use Rattle.std.specs.Prelude.{◌≡◌, ◌≤◌, ◌<◌, [], false, length, option_copied, true};
 ghost use Rattle.lg_rules.specs.Meaning.Claim.{name_of};
 ghost use Rattle.lg_rules.specs.Meaning.Own.{own_record};
 ghost use Rattle.lg_rules.specs.Meaning.Rows.{name_cmp, row_at};
 ghost use Rattle.lg_rules.specs.Meaning.Table.{live_in};
 ghost use Rattle.lg_gossip.specs.Meaning.Queue.{has_news};
-ghost use Rattle.lg_membership.specs.Meaning.Gossip.{news, version_sent};
+ghost use Rattle.lg_membership.specs.Meaning.Gossip.{fill, news, version_sent};
+ghost use Rattle.lg_membership.specs.declared.addressee.Addressee.TheVariants.{Anybody};
 ghost use Rattle.lg_membership.specs.Meaning.Log.{GroupLog, config, own, group_view, live};
 ghost use Rattle.lg_membership.specs.Support.State.{group_state_of, shown};
 
@@ -90,6 +91,9 @@ impl Membership {
     pub fn has_news(&self) -> bool
         ensures state { result ≡ has_news self.now.queue (live_in self.now.members.table) }
         ensures log { (log : GroupLog) → self.now ≡ group_state_of log → result ≡ news log }
+        // Without news a packet to anybody takes no claim, and with news it takes some.
+        ensures none { (log : GroupLog) → self.now ≡ group_state_of log → result ≡ false → fill Anybody log ≡ [] }
+        ensures some { (log : GroupLog) → self.now ≡ group_state_of log → result ≡ true → 0 < length (fill Anybody log) }
     {
         self.queue.has_news(self.members.live())
     }

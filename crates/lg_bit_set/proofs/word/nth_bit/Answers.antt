@@ -1,18 +1,24 @@
-use Rattle.std.proofs.Common.{◌≡◌, ◌<◌, arith, w64}
-use Rattle.std.proofs.lemmas.Nat.Bits.{bit_at-trailing_zeros}
-use Rattle.lg_bit_set.specs.Support.Steps.{IsLeftOver}
-use Rattle.lg_bit_set.proofs.NthLaws.{IsLeftOver-more, IsLeftOver-some, IsLeftOver-end}
+use Rattle.std.proofs.Common.{◌≡◌, ◌+◌, ap, ◌∙◌, Some, arith}
+use Rattle.lg_bit_set.specs.Support.Words.{word_flags, length-word_flags}
+use Rattle.lg_bit_set.specs.Meaning.Flags.{nth_number}
+use Rattle.lg_bit_set.proofs.Halves.{number_within}
 use Rattle.lg_bit_set.proofs.word.nth_bit.Goals as goal
-
-pub bits-preserved : goal.bits-preserved
-bits-preserved c = IsLeftOver-more c.args.word c.bits.counter c.bits.rest (omega arith) c.bits.invariant
 
 pub returns : goal.returns
 returns c =
-    let all : c.bits.counter ≡ c.args.index = omega arith in
-    let left : IsLeftOver c.args.word c.args.index c.bits.rest = rw all at c.bits.invariant in
-    let some : 0 < c.bits.rest = IsLeftOver-some c.args.word c.args.index c.bits.rest c.requires left in
+    let n = c.place_after-2.result in
+    let a = c.pass_by-half.ensures.place in
+    let b = c.pass_by-quarter.ensures.place in
+    let d = c.pass_by-eighth.ensures.place in
+    let at : nth_number (word_flags 64 c.args.word) c.args.index ≡ Some (c.pass_by-eighth.result.passed + n) =
+    a.place _ (b.place _ (d.place n c.place_after-2.ensures.place))
+    ∙ ap Some (omega (arith, a.further, b.further, d.further)) in
     record {
-      place = IsLeftOver-end c.args.word c.args.index c.bits.rest c.requires left;
-      within = (bit_at-trailing_zeros w64 c.bits.rest some left.fits).0;
+      place = at;
+      within =
+          omega (
+            arith,
+            number_within (word_flags 64 c.args.word) 0 c.args.index _ at,
+            length-word_flags 64 c.args.word,
+          );
     }

@@ -15,7 +15,7 @@ returns-then-has_room_for-clause-state c =
     let reached : IsReached s = subst IsReached c.self.view_is c.self.invariant in
     let here : state_in c.deref.result.now ≡ s = ap state_in c.deref.ensures ∙ c.self.view_is in
     let roomy : has_room_in (length claims) s.membership ≡ true =
-    ap (λ (t : State). has_room_in (length claims) t.membership) (sym here) ∙ sym c.has_room_for.ensures ∙ c.if-has_room_for.true in
+    ap (λ (t : State). has_room_in (length claims) t.membership) (sym here) ∙ sym c.has_room_for.ensures.state ∙ c.if-has_room_for.true in
     c.say_each.ensures.state ∙ sym (heard-roomy claims s reached roomy)
 
 pub returns-then-has_room_for-clause-differing : goal.returns-then-has_room_for-clause-differing
@@ -25,7 +25,7 @@ returns-then-has_room_for-clause-differing c =
     let reached : IsReached s = subst IsReached c.self.view_is c.self.invariant in
     let here : state_in c.deref.result.now ≡ s = ap state_in c.deref.ensures ∙ c.self.view_is in
     let roomy : has_room_in (length claims) s.membership ≡ true =
-    ap (λ (t : State). has_room_in (length claims) t.membership) (sym here) ∙ sym c.has_room_for.ensures ∙ c.if-has_room_for.true in
+    ap (λ (t : State). has_room_in (length claims) t.membership) (sym here) ∙ sym c.has_room_for.ensures.state ∙ c.if-has_room_for.true in
     c.say_each.ensures.differing ∙ ap (λ (t : State). changed (view_state s) (view_state t)) (sym (heard-roomy claims s reached roomy))
 
 pub returns-then-has_room_for-clause-forgotten : goal.returns-then-has_room_for-clause-forgotten
@@ -35,5 +35,5 @@ returns-then-has_room_for-clause-forgotten c =
     let reached : IsReached s = subst IsReached c.self.view_is c.self.invariant in
     let here : state_in c.deref.result.now ≡ s = ap state_in c.deref.ensures ∙ c.self.view_is in
     let roomy : has_room_in (length claims) s.membership ≡ true =
-    ap (λ (t : State). has_room_in (length claims) t.membership) (sym here) ∙ sym c.has_room_for.ensures ∙ c.if-has_room_for.true in
+    ap (λ (t : State). has_room_in (length claims) t.membership) (sym here) ∙ sym c.has_room_for.ensures.state ∙ c.if-has_room_for.true in
     c.clear.ensures ∙ sym (forgotten-roomy claims s reached roomy)
