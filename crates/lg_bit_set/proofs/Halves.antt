@@ -20,6 +20,8 @@ use Rattle.std.proofs.Common.{
   ◌∷◌,
   ◌++◌,
   length,
+  drop,
+  set,
   zero-add,
   Some,
   None,
@@ -145,6 +147,31 @@ number_within (true ∷ flags) first zero n at = (let same : first ≡ n = cc in
 number_within (true ∷ flags) first (suc index) n at = omega (arith, number_within flags (first + 1) index n at)
 number_within (false ∷ flags) first index n at = omega (arith, number_within flags (first + 1) index n at)
 
+-- and not below the first one
+number_from : (flags : List Bool) (first index n : ℕ) → slice_get (numbers_from first flags) index ≡ Some n → first ≤ n
+number_from [] first zero n at = (let none : Some n ≡ None = sym at in absurd cc)
+number_from [] first (suc index) n at = (let none : Some n ≡ None = sym at in absurd cc)
+number_from (true ∷ flags) first zero n at = (let same : first ≡ n = cc in omega arith)
+number_from (true ∷ flags) first (suc index) n at = omega (arith, number_from flags (first + 1) index n at)
+number_from (false ∷ flags) first index n at = omega (arith, number_from flags (first + 1) index n at)
+
 -- the lowest places of a word, by a mask
 pub masked : (word width : ℕ) → width < 64 → bit_and word (1 * 2 ^ width % 2 ^ 64 - 1) ≡ word % 2 ^ width
 masked word width within = ap (λ n. bit_and word (n - 1)) (one_shl width 64 within) ∙ and_mask word width
+
+-- Without the least number the others are left.
+first_out-from : (flags : List Bool) (first n : ℕ) → slice_get (numbers_from first flags) 0 ≡ Some (first + n)
+    → numbers_from first (set flags n false) ≡ drop 1 (numbers_from first flags)
+first_out-from [] first n at = refl
+first_out-from (true ∷ flags) first zero at = refl
+first_out-from (true ∷ flags) first (suc n) at = (let same : first ≡ first + suc n = cc in absurd (omega arith))
+first_out-from (false ∷ flags) first zero at = absurd (less flags at)
+  where
+    less : (flags : List Bool) → slice_get (numbers_from (first + 1) flags) 0 ≡ Some (first + 0) → ⊥
+    less flags e = omega (arith, number_from flags (first + 1) 0 (first + 0) e)
+first_out-from (false ∷ flags) first (suc n) at =
+    first_out-from flags (first + 1) n (at ∙ ap Some (omega arith))
+
+pub first_out : (flags : List Bool) (n : ℕ) → nth_number flags 0 ≡ Some n
+    → numbers_of (set flags n false) ≡ drop 1 (numbers_of flags)
+first_out flags n at = first_out-from flags 0 n (at ∙ ap Some (omega arith))

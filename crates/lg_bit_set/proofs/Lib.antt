@@ -13,3 +13,4 @@ pub mod TestLaws
 pub mod Without
 pub mod WordFlags
 pub mod Halves
+pub mod NoFlags

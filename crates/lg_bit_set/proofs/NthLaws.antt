@@ -73,7 +73,7 @@ IsLeftOver-more word cleared rest more left =
       fits = fits;
     }
 
-slice_get-drop : (numbers : List ℕ) (index : ℕ) → slice_get numbers index ≡ slice_get (drop index numbers) 0
+pub slice_get-drop : (numbers : List ℕ) (index : ℕ) → slice_get numbers index ≡ slice_get (drop index numbers) 0
 slice_get-drop [] zero = refl
 slice_get-drop [] (suc index) = refl
 slice_get-drop (number ∷ numbers) zero = refl

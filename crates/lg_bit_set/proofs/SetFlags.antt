@@ -194,11 +194,14 @@ none_set words are a b c d =
     ) in
     eq-eqb (count_set (flags_of words)) 0 none
 
-some_bit : (word : ℕ) → word ≢ 0 → 0 < ones word
+pub some_bit : (word : ℕ) → word ≢ 0 → 0 < ones word
 some_bit word some = elim (cases_eq (ones word) 0) [
   | inl none ↦ absurd (some (zero_from_ones word none))
   | inr more ↦ omega arith
 ]
+
+pub no_ones : (word : ℕ) → word ≡ 0 → ones word ≡ 0
+no_ones word none = omega (arith, ones_le_self word)
 
 pub some_set : (words : List ℕ) → AreWords words → (i : ℕ) → i < 4 → get_or words i 0 ≢ 0
     → nat_eq (count_set (flags_of words)) 0 ≡ false

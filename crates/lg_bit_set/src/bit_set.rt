@@ -85,13 +85,14 @@ impl Eq for BitSet {
 }
 
 impl BitSet {
-    ghost use Rattle.std.specs.Prelude.{◌≡◌, true, false, length, nat_eq, slice_index_or, slice_set};
+    ghost use Rattle.std.specs.Prelude.{◌≡◌, true, false, drop, length, nat_eq, slice_index_or, slice_set};
     ghost use Rattle.lg_bit_set.specs.Meaning.Flags.{
       no_flags,
       flags_below,
       count_set,
       flags_without,
       nth_number,
+      numbers_of,
       opened_flags,
       closed_flags,
     };
@@ -180,7 +181,8 @@ impl BitSet {
     /// Whether no number is in the set.
     #[inline(always)]
     pub fn is_empty(&self) -> bool
-        ensures { result ≡ nat_eq (count_set self.now) 0 }
+        ensures empty { result ≡ nat_eq (count_set self.now) 0 }
+        ensures size { length self.now ≡ NUMBERS }
     {
         for word in &self.words {
             if *word != 0 {
@@ -213,12 +215,40 @@ impl BitSet {
     pub fn first(&self) -> Option<u8>
         ensures { result ≡ nth_number self.now 0 }
     {
-        self.nth(0)
+        'words: for i in 0..4 {
+            let word = self.words[i];
+            if word != 0 {
+                return Some((64 * i + nth_bit(word, 0)) as u8);
+            }
+        }
+        None
+    }
+
+    /// Takes the least number out and returns it, if the set has one.
+    #[inline(always)]
+    pub fn pop_first(&mut self) -> Option<u8>
+        ensures number { result ≡ nth_number self.old 0 }
+        ensures left { numbers_of self.new ≡ drop 1 (numbers_of self.old) }
+    {
+        let number = self.first()?;
+        self.remove(number);
+        Some(number)
     }
 
     /// Makes room for a number: each number at or above it rises by one, and it isn't in the set afterwards. The
-    /// number 255 is dropped.
+    /// number 255 is dropped. In an empty set nothing moves.
+    #[inline(always)]
     pub fn open(&mut self, number: u8)
+        ensures flags { self.new ≡ opened_flags number self.old }
+        ensures size { length self.new ≡ NUMBERS }
+    {
+        if !self.is_empty() {
+            self.open_words(number);
+        }
+    }
+
+    /// Makes room for a number in the words.
+    fn open_words(&mut self, number: u8)
         ensures flags { self.new ≡ opened_flags number self.old }
         ensures size { length self.new ≡ NUMBERS }
     {
@@ -229,8 +259,20 @@ impl BitSet {
         self.words[at] = opened_word(self.words[at], number % 64);
     }
 
-    /// Takes a number's place away: the number leaves the set, and each number above it falls by one.
+    /// Takes a number's place away: the number leaves the set, and each number above it falls by one. In an empty set
+    /// nothing moves.
+    #[inline(always)]
     pub fn close(&mut self, number: u8)
+        ensures flags { self.new ≡ closed_flags number self.old }
+        ensures size { length self.new ≡ NUMBERS }
+    {
+        if !self.is_empty() {
+            self.close_words(number);
+        }
+    }
+
+    /// Takes a number's place away from the words.
+    fn close_words(&mut self, number: u8)
         ensures flags { self.new ≡ closed_flags number self.old }
         ensures size { length self.new ≡ NUMBERS }
     {

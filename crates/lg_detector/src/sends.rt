@@ -99,8 +99,18 @@ pub(crate) fn make_slots(slots: &mut ArrayVec<Outgoing, MAX_SENDS>, count: usize
     ensures kept { take (array_vec_len slots.old) slots.new.items ≡ slots.old.items }
 {
     while slots.len() < count {
-        slots.push(Outgoing::default());
+        add_slot(slots);
     }
+}
+
+/// Adds a slot. Mostly there are slots enough, and then no packet is to be made, so this isn't inlined.
+#[inline(never)]
+fn add_slot(slots: &mut ArrayVec<Outgoing, MAX_SENDS>)
+    requires { array_vec_len slots.old < MAX_SENDS }
+    ensures more { array_vec_len slots.new ≡ array_vec_len slots.old + 1 }
+    ensures kept { take (array_vec_len slots.old) slots.new.items ≡ slots.old.items }
+{
+    slots.push(Outgoing::default());
 }
 
 impl Debug for Sends {

@@ -111,8 +111,9 @@ fn take_sent(taken: &mut ArrayVec<TakenRow, MAX_CLAIMS>, set: &BitSet, sends: u3
     requires fits { array_vec_len taken.old ≤ room }
     ensures { taken.new.items ≡ take room (taken.old.items ++ places_of sends set.now) }
 {
-    for nth in 0..room - taken.len() {
-        let Some(number) = set.nth(nth) else {
+    let mut rest = *set;
+    'rows: for _ in 0..room - taken.len() {
+        let Some(number) = rest.pop_first() else {
             return;
         };
         let index = usize::from(number);

@@ -12,9 +12,9 @@ ghost use Rattle.lg_membership.specs.Support.Reached.{IsGood};
 ghost use Rattle.lg_detector.specs.Meaning.Probing.{gossip_to_in};
 ghost use Rattle.lg_detector.specs.Meaning.Tick.{gossip_for, gossips_for};
 ghost use Rattle.lg_timing.specs.Meaning.Config.{IsChecked, version_of};
-ghost use Rattle.lg_detector.specs.Meaning.Timing.{gossip_delay_of, gossip_by, gossip_delay};
+ghost use Rattle.lg_detector.specs.Meaning.Timing.{gossip_delay_of, gossip_delay};
 ghost use Rattle.lg_detector.specs.Support.Send.{packets_state, send_all_state};
-ghost use Rattle.lg_detector.specs.Support.State.{end_event, gossip_fired, has_to_tell_state, with_gossip};
+ghost use Rattle.lg_detector.specs.Support.State.{end_event, gossip_fired, has_to_tell_state, next_gossip, with_gossip};
 ghost use Rattle.lg_detector.specs.Support.Step.{view_state};
 ghost use Rattle.lg_detector.specs.Support.Tick.{messages_state, told_state, while_news_state};
 
@@ -26,7 +26,7 @@ use lg_packet::Body;
 use lg_probe::{Helpers, MAX_HELPERS};
 use lg_rules::{Name, Record, Version};
 use lg_timers::{MAX_TIMERS, Timer, TimerId, Timers};
-use lg_timing::{Config, MAX_GOSSIP_MS, Moment};
+use lg_timing::{Config, MAX_GOSSIP_MS};
 
 /// How long news waits for its first gossip with a configuration, in milliseconds, if it is gossiped at all.
 fn delay_in(config: &Config) -> Option<u64>
@@ -64,20 +64,6 @@ fn gossip_to(config: Option<&Config>) -> usize
     }
 }
 
-/// When news is gossiped next: at the deadline that is set, or a delay after this moment if there is something to tell.
-fn next_gossip(tells: bool, delay: Option<u64>, now: Moment, set: Option<u64>) -> Option<u64>
-    requires { IfSome delay (λ delay. delay ≤ MAX_GOSSIP_MS) }
-    ensures { result ≡ gossip_by tells delay now set }
-{
-    if let Some(deadline) = set {
-        return Some(deadline);
-    }
-    match delay {
-        Some(delay) if tells => Some(now.milliseconds() + delay),
-        _ => None,
-    }
-}
-
 /// Sets the timer of the next gossip, unless it is set already or none is due.
 fn set_gossip(timers: &mut Timers, set: Option<u64>, next: Option<u64>)
     requires { length timers.old < MAX_TIMERS }
@@ -112,15 +98,27 @@ impl Detector {
         self.parts.membership.has_news() && !self.parts.order.is_empty()
     }
 
+    /// When news is gossiped next: at the deadline that is set, or a delay after this moment if there is something to
+    /// tell.
+    fn next_gossip(&self) -> Option<u64>
+        ensures { result ≡ next_gossip self.now }
+    {
+        if let Some(deadline) = self.parts.gossip {
+            return Some(deadline);
+        }
+        match gossip_delay(self.parts.membership.config()) {
+            Some(delay) if self.has_to_tell() => Some(self.parts.moment.milliseconds() + delay),
+            _ => None,
+        }
+    }
+
     /// Ends an event: sets the next gossip, if one is to be set.
     #[tactic(auto, unfolding(crate::specs::Support::State::end_event))]
     pub(super) fn end_event(&mut self)
         ensures { self.new ≡ end_event self.old }
     {
-        let delay = gossip_delay(self.parts.membership.config());
-        let tells = self.has_to_tell();
+        let next = self.next_gossip();
         let parts = &mut *self.parts;
-        let next = next_gossip(tells, delay, parts.moment, parts.gossip);
         set_gossip(&mut parts.timers, parts.gossip, next);
         parts.gossip = next;
     }

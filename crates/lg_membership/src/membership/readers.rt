@@ -107,9 +107,8 @@ impl Membership {
         if self.config.is_none() {
             return None;
         }
-        let own = self.own.record();
-        if is_same_name(&own.name, name) {
-            return Some(own);
+        if is_same_name(&self.own.name(), name) {
+            return Some(self.own.record());
         }
         self.members.get(name).copied()
     }

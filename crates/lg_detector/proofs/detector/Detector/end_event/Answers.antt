@@ -1,8 +1,6 @@
 use Rattle.std.proofs.Common.{◌≡◌, ap, sym, subst, ◌∙◌, arith}
-use Rattle.lg_detector.specs.declared.detector.Parts.{Parts}
 use Rattle.lg_detector.specs.Support.Kept.{state_in}
-use Rattle.lg_detector.specs.Meaning.Timing.{gossip_by, gossip_delay}
-use Rattle.lg_detector.specs.Support.State.{end_event, has_to_tell_state, next_gossip, with_gossip}
+use Rattle.lg_detector.specs.Support.State.{end_event, next_gossip, with_gossip}
 use Rattle.lg_detector.specs.Support.Reached.{IsReached}
 use Rattle.lg_detector.proofs.Reaching.{few_timers, reached-ended}
 use Rattle.lg_detector.proofs.detector.Detector.end_event.Goals as goal
@@ -20,15 +18,7 @@ invariant_of-self c =
     let s = state_in parts in
     let is : s ≡ c.args.self.now = ap state_in c.deref_mut-parts.ensures.value ∙ c.self.view_is in
     let before : IsReached s = subst IsReached (sym (ap state_in c.deref_mut-parts.ensures.value)) c.self.invariant in
-    let delay : c.gossip_delay-delay.result ≡ gossip_delay s.membership.config =
-    c.gossip_delay-delay.ensures.delay
-    ∙ ap gossip_delay (c.config.ensures.state ∙ ap (λ (p : Parts). p.membership.config) (c.deref.ensures ∙ sym c.deref_mut-parts.ensures.value))
-    in
-    let next : c.next_gossip-next.result ≡ next_gossip s =
-    c.next_gossip-next.ensures
-    ∙ ap (λ delay. gossip_by c.has_to_tell-tells.result delay parts.moment parts.gossip) delay
-    ∙ ap (λ tells. gossip_by tells (gossip_delay s.membership.config) parts.moment parts.gossip) (c.has_to_tell-tells.ensures ∙ ap has_to_tell_state (sym is))
-    in
+    let next : c.next_gossip-next.result ≡ next_gossip s = c.next_gossip-next.ensures ∙ ap next_gossip (sym is) in
     reached-ended s _
     ((λ i. record s { gossip = c.next_gossip-next.result; timers = c.set_gossip.ensures i })
     ∙ ap (λ o. record s { gossip = o; timers = with_gossip parts.gossip o parts.timers }) next)

@@ -12,7 +12,7 @@ mark r = mark_of r.acked r.silent
 pub returns-then-is_empty-clause-mark : goal.returns-then-is_empty-clause-mark
 returns-then-is_empty-clause-mark c =
     let silent = entries_in c.self.inside.silent c.self.inside.asked.items in
-    let none = eqb-true (count_set c.self.inside.silent) 0 (sym c.is_empty.ensures ∙ c.if-is_empty.true) in
+    let none = eqb-true (count_set c.self.inside.silent) 0 (sym c.is_empty.ensures.empty ∙ c.if-is_empty.true) in
     one_earned c.self.inside.acked silent c.if-self.false (omega (arith, none, part_count c.self.invariant))
     ∙ ap mark c.self.view_is
 
@@ -22,7 +22,7 @@ returns-then-is_empty-clause-past c = λ past e. returns-then-is_empty-clause-ma
 pub returns-else-is_empty-clause-mark : goal.returns-else-is_empty-clause-mark
 returns-else-is_empty-clause-mark c =
     let silent = entries_in c.self.inside.silent c.self.inside.asked.items in
-    let some = eqb-false (count_set c.self.inside.silent) 0 (sym c.is_empty.ensures ∙ c.if-is_empty.false) in
+    let some = eqb-false (count_set c.self.inside.silent) 0 (sym c.is_empty.ensures.empty ∙ c.if-is_empty.false) in
     two_earned c.self.inside.acked silent c.if-self.false (omega (arith, some, part_count c.self.invariant))
     ∙ ap mark c.self.view_is
 
