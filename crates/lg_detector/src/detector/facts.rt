@@ -12,13 +12,14 @@ ghost use Rattle.lg_rules.specs.Meaning.Rows.{name_cmp, put_key, Rises};
 ghost use Rattle.lg_rules.specs.Meaning.View.{changed};
 ghost use Rattle.lg_timing.specs.Meaning.Config.{IsChecked};
 ghost use Rattle.lg_timers.specs.Meaning.Timers.{is_set, with_timer, without_timer};
+ghost use Rattle.lg_timers.specs.declared.timer.TimerId.TheVariants.{Forget, Suspicion};
 ghost use Rattle.lg_probe.specs.Meaning.Order.{known_names};
 ghost use Rattle.lg_membership.specs.declared.applied.Presence.TheVariants.{Joins};
 ghost use Rattle.lg_membership.specs.declared.origin.Origin.TheVariants.{Group};
 ghost use Rattle.lg_membership.specs.Support.State.{applied, with_found};
 ghost use Rattle.lg_detector.specs.Meaning.Timing.{start_timer};
 ghost use Rattle.lg_membership.specs.Support.Reached.{IsGood};
-ghost use Rattle.lg_detector.specs.Support.State.{come_state, begin, marked_if, follow, forget_after};
+ghost use Rattle.lg_detector.specs.Support.State.{come_state, begin, marked_if, follow, forget_deadline};
 ghost use Rattle.lg_detector.specs.Support.State.{reorder, apply_state};
 ghost use Rattle.lg_detector.specs.Support.State.{apply_all_state};
 ghost use Rattle.lg_detector.specs.Support.Step.{view_state};
@@ -26,42 +27,60 @@ ghost use Rattle.lg_detector.specs.Support.Step.{view_state};
 use super::{Detector, MAX_EVENTS};
 use crate::reply::MAX_CHANGED;
 use arrayvec::ArrayVec;
-use lg_membership::{Deadline, Origin, Presence};
+use lg_membership::{Deadline, Membership, Origin, Presence};
 use lg_probe::{Order, Relays};
 use lg_rules::{Claim, MAX_CLAIMS, MAX_OTHERS, Name, Record, Status, put_row};
 use lg_timers::{MAX_TIMERS, Timer, TimerId, Timers};
 use lg_timing::{Config, Moment, Score};
 
-/// Makes a timer follow its deadline. That of a member's suspicion is set, or moved if an accuser brings the deadline
-/// nearer, or cancelled if the suspicion ended. That which forgets a member is set or set anew, or cancelled.
-fn follow(timers: &mut Timers, id: TimerId, deadline: Deadline)
+/// Makes the timer of a member's suspicion follow its deadline: it is set, or moved if an accuser brings the deadline
+/// nearer, or cancelled if the suspicion ended.
+fn follow_suspicion(timers: &mut Timers, member: &Name, deadline: Deadline)
     requires { length timers.old < MAX_TIMERS }
-    ensures { timers.new ≡ follow id deadline timers.old }
+    ensures { timers.new ≡ follow (Suspicion member.now) deadline timers.old }
 {
     match deadline {
         Deadline::Stays => {}
         Deadline::Ends => {
-            timers.cancel(&id);
+            timers.cancel(&TimerId::Suspicion(*member));
         }
-        Deadline::Stands(deadline) => timers.reset(Timer { deadline, id }),
+        Deadline::Stands(deadline) => timers.reset(Timer {
+            deadline,
+            id: TimerId::Suspicion(*member),
+        }),
+    }
+}
+
+/// The same of the timer that forgets a member: it is set or set anew, or cancelled.
+fn follow_forget(timers: &mut Timers, member: &Name, deadline: Deadline)
+    requires { length timers.old < MAX_TIMERS }
+    ensures { timers.new ≡ follow (Forget member.now) deadline timers.old }
+{
+    match deadline {
+        Deadline::Stays => {}
+        Deadline::Ends => {
+            timers.cancel(&TimerId::Forget(*member));
+        }
+        Deadline::Stands(deadline) => timers.reset(Timer {
+            deadline,
+            id: TimerId::Forget(*member),
+        }),
     }
 }
 
 /// What becomes of the moment at which a member is forgotten once its record changed, if it did: it is set anew if the
 /// member is gone, and else there is none (this project's choice). This member itself is never forgotten.
-fn forget_after(
-    config: Option<&Config>,
-    me: &Name,
-    now: Moment,
-    changed: &Option<Record>,
-) -> Deadline
-    requires { IsGood (option_copied config) }
-    ensures { result ≡ forget_after (option_copied config.entry) me.now now changed.now }
+fn forget_after(membership: &Membership, now: Moment, changed: &Option<Record>) -> Deadline
+    requires { IsGood membership.now.config }
+    ensures { result ≡ forget_deadline now changed.now membership.now }
 {
-    let (Some(config), Some(record)) = (config, changed) else {
+    let Some(record) = changed else {
         return Deadline::Stays;
     };
-    if !config.does_forget() || record.name.cmp(me).is_eq() {
+    let Some(config) = membership.config() else {
+        return Deadline::Stays;
+    };
+    if !config.does_forget() || record.name.cmp(&membership.name()).is_eq() {
         return Deadline::Stays;
     }
     match record.status {
@@ -163,18 +182,9 @@ impl Detector {
         let now = parts.moment;
         let applied = parts.membership.apply(now, origin, claim);
         mark_if(&mut parts.score, applied.refuted);
-        follow(
-            &mut parts.timers,
-            TimerId::Suspicion(claim.name),
-            applied.deadline,
-        );
-        let until = forget_after(
-            parts.membership.config(),
-            &parts.membership.name(),
-            now,
-            &applied.changed,
-        );
-        follow(&mut parts.timers, TimerId::Forget(claim.name), until);
+        follow_suspicion(&mut parts.timers, &claim.name, applied.deadline);
+        let until = forget_after(&parts.membership, now, &applied.changed);
+        follow_forget(&mut parts.timers, &claim.name, until);
         reorder(&mut parts.order, &claim.name, applied.presence);
         applied.changed
     }
