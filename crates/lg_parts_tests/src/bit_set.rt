@@ -25,9 +25,26 @@ fn holds_what_was_inserted(rt: HostRuntime) {
     }
     for number in BORDERS {
         assert_eq!(rt; set.first(), Some(number));
-        set.remove(number);
+        assert_eq!(rt; set.pop_first(), Some(number));
+        assert!(rt; !set.contains(number), "{number}");
     }
     assert!(rt; set.is_empty());
+    assert_eq!(rt; set.pop_first(), None);
+}
+
+/// Of all numbers, and of every third one, the number at each index.
+#[test]
+fn finds_the_nth_number(rt: HostRuntime) {
+    for step in [1, 3] {
+        let mut set = BitSet::new();
+        for number in (0..NUMBERS).step_by(step) {
+            set.insert(number as u8);
+        }
+        for index in 0..NUMBERS.div_ceil(step) {
+            assert_eq!(rt; set.nth(index), Some((step * index) as u8), "{index} of {step}");
+        }
+        assert_eq!(rt; set.nth(NUMBERS.div_ceil(step)), None, "{step}");
+    }
 }
 
 #[test]

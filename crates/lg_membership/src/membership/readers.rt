@@ -107,8 +107,9 @@ impl Membership {
         if self.config.is_none() {
             return None;
         }
-        if is_same_name(&self.own.name(), name) {
-            return Some(self.own.record());
+        let own = self.own.record();
+        if is_same_name(&own.name, name) {
+            return Some(own);
         }
         self.members.get(name).copied()
     }

@@ -13,8 +13,8 @@ returns-then-is_same_name-clause-state c =
     let rest = row_at name_cmp name_of c.args.name.now c.self.inside.members.table in
     let found = found-opened c.self.inside.config own c.self.inside.members.table c.args.name.now c.if-is_none.ensures in
     let hit : is_same name_cmp own.name c.args.name.now ≡ true =
-    ap (λ n. is_same name_cmp n c.args.name.now) (sym c.name.ensures) ∙ sym c.is_same_name.ensures ∙ c.if-is_same_name.true in
-    ap (λ (r : Claim). Some r) c.record.ensures ∙ sym (found ∙ ap (λ b. cond b (Some (own_record own)) rest) hit)
+    ap (λ (r : Claim). is_same name_cmp r.name c.args.name.now) (sym c.record-own.ensures) ∙ sym c.is_same_name.ensures ∙ c.if-is_same_name.true in
+    ap (λ (r : Claim). Some r) c.record-own.ensures ∙ sym (found ∙ ap (λ b. cond b (Some (own_record own)) rest) hit)
     ∙ ap (λ (s : GroupState). row_at name_cmp name_of c.args.name.now (shown s)) c.self.view_is
 
 pub returns-then-is_same_name-clause-log : goal.returns-then-is_same_name-clause-log
@@ -27,7 +27,7 @@ returns-clause-state c =
     let rest = row_at name_cmp name_of c.args.name.now c.self.inside.members.table in
     let found = found-opened c.self.inside.config own c.self.inside.members.table c.args.name.now c.if-is_none.ensures in
     let miss : is_same name_cmp own.name c.args.name.now ≡ false =
-    ap (λ n. is_same name_cmp n c.args.name.now) (sym c.name.ensures) ∙ sym c.is_same_name.ensures ∙ c.if-is_same_name.false in
+    ap (λ (r : Claim). is_same name_cmp r.name c.args.name.now) (sym c.record-own.ensures) ∙ sym c.is_same_name.ensures ∙ c.if-is_same_name.false in
     c.copied.ensures ∙ c.get.ensures ∙ sym (found ∙ ap (λ b. cond b (Some (own_record own)) rest) miss)
     ∙ ap (λ (s : GroupState). row_at name_cmp name_of c.args.name.now (shown s)) c.self.view_is
 
