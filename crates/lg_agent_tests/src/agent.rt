@@ -1,4 +1,4 @@
-//! Agents: calls and looks, both forms of the calls, rotation, refused memory, whom rounds chose, closing, and threads
+//! Agents: calls and looks, both forms of the calls, rotation, whom rounds chose, closing, and threads
 //! that share one.
 pub mod calls;
 mod choosing;
@@ -6,7 +6,6 @@ mod faults;
 pub mod forms;
 mod leaving;
 pub mod many;
-mod refused_memory;
 mod rotating;
 mod rows;
 mod seats;

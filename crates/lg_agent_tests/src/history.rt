@@ -1,3 +1,3 @@
 //! Histories of the member b, which hears from port 1.
-mod refused_memory;
+mod entries;
 mod rows;

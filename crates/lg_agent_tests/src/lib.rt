@@ -1,13 +1,10 @@
-//! Tests of the histories, the published views and the agent, over their public calls; and of detectors to which memory
-//! is refused.
+//! Tests of the histories, the published views and the agent, over their public calls.
 #![tactic(auto)]
 
 #[cfg(test)]
 mod agent;
 #[cfg(test)]
 mod comparing;
-#[cfg(test)]
-mod detector;
 #[cfg(test)]
 mod history;
 #[cfg(test)]

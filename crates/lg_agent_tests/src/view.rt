@@ -2,7 +2,6 @@
 mod keeper;
 mod looks;
 mod playing;
-mod refused_memory;
 mod threads;
 
 use lg_detector::Event;

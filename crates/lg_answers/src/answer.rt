@@ -1,7 +1,7 @@
 //! The answer to a request.
 //!
 //! Defined in: `specs/Meaning/Answers.antt`.
-//! Tested in: `lg_answers_tests/src/answer.rt`, `lg_answers_tests/src/refused_memory.rt`.
+//! Tested in: `lg_answers_tests/src/answer.rt`, `lg_answers_refusals/src/refused_memory.rt`.
 ghost use Rattle.std.specs.Prelude.{◌≡◌, IfOk, List, string_bytes};
 ghost use Rattle.std.specs.Option.{option_map};
 ghost use Rattle.lg_changes.specs.declared.change.Change.{Change};

@@ -15,8 +15,6 @@ mod nodes;
 #[cfg(test)]
 mod page;
 #[cfg(test)]
-mod refused_memory;
-#[cfg(test)]
 mod ring;
 #[cfg(test)]
 mod route;

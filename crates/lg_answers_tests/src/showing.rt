@@ -224,21 +224,7 @@ const CASES: &[(&str, &[Step])] = &[
 #[test]
 fn shows_what_looks_find(rt: HostRuntime) {
     for (case, steps) in CASES {
-        let unmet = play(&rt, rt.alloc(), steps, false);
-        assert!(rt; unmet == Some(None), "{case}: step {unmet:?}");
-    }
-}
-
-/// If any one allocation is refused, an event, a look or an answer comes the next time as it should have come.
-#[test]
-fn shows_after_refused_memory(rt: HostRuntime) {
-    for (case, steps) in CASES {
-        let first = play(&rt, rt.alloc(), steps, true);
-        let unmet = if first.is_none() {
-            play(&rt, rt.alloc(), steps, true)
-        } else {
-            first
-        };
+        let unmet = play(&rt, rt.alloc(), steps);
         assert!(rt; unmet == Some(None), "{case}: step {unmet:?}");
     }
 }

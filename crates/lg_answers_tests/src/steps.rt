@@ -85,8 +85,6 @@ struct Doing<'a, R> {
     alloc: Global,
     clock: &'a SetClock,
     counters: &'a Counters,
-    /// Whether each look is made twice, and a step that went otherwise is done once more: memory may be refused.
-    twice: bool,
 }
 
 /// A packet of a for b: a Ping with a claim, or the wish that b probes c.
@@ -214,9 +212,6 @@ impl<'a, R: Wait> Doing<'a, R> {
             }
             Shows(now, version) => {
                 self.clock.now.store(now, SeqCst);
-                if self.twice {
-                    site.refresh();
-                }
                 site.refresh() == version
             }
             Gets(path, query, status, body) => self.is_answered(site, path, query, status, body),
@@ -273,8 +268,7 @@ fn first_unmet<A: AgentName, S: Site, R: Wait>(
     steps: &[Step<'_>],
 ) -> Option<usize> {
     for (index, step) in steps.iter().enumerate() {
-        let met = doing.goes(*step, pass, site) || doing.twice && doing.goes(*step, pass, site);
-        if !met {
+        if !doing.goes(*step, pass, site) {
             return Some(index);
         }
     }
@@ -289,7 +283,6 @@ fn play_with<A: AgentName, R: Wait>(
     passes: Vec<Pass<'_, A>>,
     config: &Config,
     steps: &[Step<'_>],
-    twice: bool,
 ) -> Option<Option<usize>> {
     let mut passes = passes;
     let mut hearer = passes.pop()?;
@@ -315,7 +308,6 @@ fn play_with<A: AgentName, R: Wait>(
         alloc,
         clock: &clock,
         counters: &counters,
-        twice,
     };
     Some(first_unmet(&doing, &mut hearer, &mut site, steps))
 }
@@ -327,7 +319,6 @@ fn play_in<A: AgentName, R: Wait>(
     book: UnnamedBook,
     places: usize,
     steps: &[Step<'_>],
-    twice: bool,
 ) -> Option<Option<usize>>
     requires book { book.seen.book ≡ A.book }
     requires places { (places ≡ A.places) × (places ≡ 2) }
@@ -337,19 +328,18 @@ fn play_in<A: AgentName, R: Wait>(
     config.check().ok()?;
     let mut agent = Agent::<A>::open(rt, alloc, book, at(0), config.copy(), places).ok()?;
     let outcome = match agent.passes(alloc) {
-        Ok(passes) => play_with(rt, alloc, passes, &config, steps, twice),
+        Ok(passes) => play_with(rt, alloc, passes, &config, steps),
         Err(_) => None,
     };
     agent.abandon(rt);
     outcome
 }
 
-/// Does the steps with an agent of its own. If memory may be refused, steps are done twice.
+/// Does the steps with an agent of its own.
 pub fn play<R: Wait>(
     rt: &R,
     alloc: Global,
     steps: &[Step<'_>],
-    twice: bool,
 ) -> Option<Option<usize>> {
-    play_in::<Brand, R>(rt, alloc, UnnamedBook::new(), 2, steps, twice)
+    play_in::<Brand, R>(rt, alloc, UnnamedBook::new(), 2, steps)
 }

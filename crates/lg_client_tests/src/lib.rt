@@ -16,8 +16,6 @@ mod outputs;
 #[cfg(test)]
 mod playing;
 #[cfg(test)]
-mod refused_memory;
-#[cfg(test)]
 mod server;
 #[cfg(test)]
 mod unanswered;

@@ -1,6 +1,4 @@
-//! What is told of a node before it starts and at its end, and of a file that is checked. Runs over writers that fail,
-//! or while memory is refused.
-mod checks;
+//! What is told of a node before it starts and at its end. Runs over writers that fail.
 mod ends;
 mod keys;
 mod order;

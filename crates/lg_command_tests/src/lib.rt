@@ -20,8 +20,6 @@ mod pumping;
 #[cfg(test)]
 mod readers;
 #[cfg(test)]
-mod refused_memory;
-#[cfg(test)]
 mod replies;
 #[cfg(test)]
 mod streams;

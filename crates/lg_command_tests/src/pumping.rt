@@ -233,11 +233,3 @@ fn writes_a_long_line_in_pieces(rt: HostRuntime) {
     };
     assert!(rt; met);
 }
-
-/// A pump for which memory is refused isn't made, and the next one is.
-#[test]
-fn makes_a_pump_after_refused_memory(rt: HostRuntime) {
-    let first = Pump::new(rt.alloc()).is_ok();
-    let second = Pump::new(rt.alloc()).is_ok();
-    assert!(rt; first || second);
-}

@@ -1,7 +1,7 @@
 //! One entry of a history.
 //!
 //! Defined in: `specs/Meaning/History.antt`, `lg_detector/specs/Meaning/Choice.antt`.
-//! Tested in: `lg_agent_tests/src/history/refused_memory.rt`.
+//! Tested in: `lg_agent_tests/src/history/entries.rt`.
 ghost use Rattle.std.specs.Prelude.{◌≡◌};
 ghost use Rattle.lg_detector.specs.Meaning.Choice.{choice_of_reply};
 

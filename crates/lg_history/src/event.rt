@@ -1,7 +1,7 @@
 //! Events, in as much memory as they need.
 //!
 //! Defined in: `specs/Support/Stored.antt`.
-//! Tested in: `lg_agent_tests/src/history/refused_memory.rt`.
+//! Tested in: `lg_agent_tests/src/history/entries.rt`.
 ghost use Rattle.std.specs.Prelude.{◌≡◌, IfOk};
 
 use crate::packet::StoredPacket;

@@ -1,7 +1,7 @@
 //! The history: its entries, and the entry that is prepared.
 //!
 //! Defined in: `specs/Meaning/History.antt`.
-//! Tested in: `lg_agent_tests/src/history/refused_memory.rt`.
+//! Tested in: `lg_agent_tests/src/history/entries.rt`.
 ghost use Rattle.std.specs.Prelude.{◌≡◌, [], length, false, Some, None, IfOk, OnOk, OnErr};
 ghost use Rattle.lg_history.specs.Meaning.History.{completed};
 

@@ -1,7 +1,7 @@
 //! Packets, in as much memory as their claims need.
 //!
 //! Defined in: this file.
-//! Tested in: `lg_agent_tests/src/history/refused_memory.rt`.
+//! Tested in: `lg_agent_tests/src/history/entries.rt`.
 ghost use Rattle.std.specs.Prelude.{◌≡◌, IfOk};
 
 use arrayvec::ArrayVec;

@@ -1,7 +1,7 @@
 //! Replies, in as much memory as they need.
 //!
 //! Defined in: `lg_detector/specs/Meaning/Choice.antt`, `specs/Support/Stored.antt`.
-//! Tested in: `lg_agent_tests/src/history/refused_memory.rt`.
+//! Tested in: `lg_agent_tests/src/history/entries.rt`.
 ghost use Rattle.std.specs.Prelude.{◌≡◌, ◌≤◌, length, option_copied, option_map, IfOk};
 ghost use Rattle.lg_detector.specs.declared.reply.TheConstants.{MAX_SENDS};
 ghost use Rattle.lg_detector.specs.Meaning.Choice.{choice_of_reply, first_body};

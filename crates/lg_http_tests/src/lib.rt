@@ -14,6 +14,4 @@ mod late;
 #[cfg(test)]
 mod playing;
 #[cfg(test)]
-mod refused_memory;
-#[cfg(test)]
 mod serving;

@@ -1,7 +1,7 @@
 //! A server at a free port of loopback, and a client in another thread that asks it.
 
 use super::board::Board;
-use super::{crowd, hosts, late, refused_memory, serving};
+use super::{crowd, hosts, late, serving};
 use lg_clock::MachineClock;
 use lg_http::{Desk, Hosts, Listener, Server, ServerCounts, ServerEnd, Signal};
 use std::alloc::{AllocError, Global};
@@ -22,8 +22,6 @@ pub(crate) enum Play {
     Hosts,
     /// It takes its time.
     Late,
-    /// It asks the same again, if memory may be refused.
-    Refused,
 }
 
 impl Play {
@@ -31,7 +29,7 @@ impl Play {
     fn hosts(self) -> Hosts {
         match self {
             Play::Hosts => Hosts::Local,
-            Play::Rows | Play::Crowd | Play::Late | Play::Refused => Hosts::Any,
+            Play::Rows | Play::Crowd | Play::Late => Hosts::Any,
         }
     }
 }
@@ -107,7 +105,6 @@ fn ask_and_stop<R: Net<Stream = TcpStream> + rt::Clock>(
         Play::Crowd => crowd::ask(rt, place),
         Play::Hosts => hosts::ask(rt, place),
         Play::Late => late::ask(rt, place),
-        Play::Refused => refused_memory::ask(rt, place),
     };
     place.signal.stop();
     seen

@@ -1,7 +1,7 @@
 //! What one turn reports to its loop.
 //!
 //! Defined in: `specs/Meaning/Links.antt`.
-//! Tested in: `lg_node_tests/src/node/receiving.rt`, `lg_node_tests/src/node/refused_memory.rt`.
+//! Tested in: `lg_node_tests/src/node/receiving.rt`, `lg_node_refusals/src/refused_memory.rt`.
 ghost use Rattle.std.specs.Prelude.{◌≡◌, ◌≤◌, None, Some, if◌then◌else◌};
 ghost use Rattle.lg_loops.specs.declared.ending.Why.TheVariants.{Ousted, Refused};
 ghost use Rattle.lg_loops.specs.Meaning.Links.{WereHanded};

@@ -1,7 +1,8 @@
 //! A watcher that tells what a node learns, in a thread beside the loops.
 //!
 //! Defined in: `specs/Meaning/Nodes.antt`, `lg_follow/specs/Meaning/Sights.antt`.
-//! Tested in: `lg_node_tests/src/node/both.rt`, `refused_memory.rt`, `cases/nodes`, `cases/groups`.
+//! Tested in: `lg_node_tests/src/node/both.rt`, `lg_node_refusals/src/refused_memory.rt`, `cases/nodes`,
+//! `cases/groups`.
 ghost use Rattle.std.specs.Prelude.{◌≡◌, false};
 ghost use Rattle.lg_node.specs.Meaning.Nodes.{WatchesIf};
 

@@ -1,7 +1,8 @@
 //! Work that a thread of its own does, if it is wanted and a thread can be started.
 //!
 //! Defined in: this file.
-//! Tested in: `lg_node_tests/src/node/both.rt`, `refused_memory.rt`, `cases/nodes`, `cases/groups`, `cases/status`.
+//! Tested in: `lg_node_tests/src/node/both.rt`, `lg_node_refusals/src/refused_memory.rt`, `cases/nodes`,
+//! `cases/groups`, `cases/status`.
 ghost use Rattle.std.specs.Prelude.{◌≡◌, IfErr, IfOk};
 
 use std::snapshot::Snapshot;

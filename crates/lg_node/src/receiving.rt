@@ -1,7 +1,7 @@
 //! What the thread of the receiving loop promises.
 //!
 //! Defined in: `lg_loops/specs/Meaning/Turns.antt`.
-//! Tested in: `lg_node_tests/src/node/both.rt`, `lg_node_tests/src/node/refused_memory.rt`.
+//! Tested in: `lg_node_tests/src/node/both.rt`, `lg_node_refusals/src/refused_memory.rt`.
 ghost use Rattle.lg_loops.specs.Meaning.Turns.{line, receives, Lasted};
 
 use lg_agent::AgentName;

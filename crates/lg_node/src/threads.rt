@@ -19,7 +19,8 @@
 //!
 //! Defined in: `specs/Meaning/Nodes.antt`, `lg_loops/specs/Meaning/Turns.antt`, `lg_loops/specs/Meaning/Pulling.antt`,
 //! `lg_loops/specs/Meaning/BothLoops.antt`.
-//! Tested in: `lg_node_tests/src/node/both.rt`, `refused_memory.rt`, `cases/nodes`, `cases/groups`, `cases/status`.
+//! Tested in: `lg_node_tests/src/node/both.rt`, `lg_node_refusals/src/refused_memory.rt`, `cases/nodes`,
+//! `cases/groups`, `cases/status`.
 ghost use Rattle.std.specs.Prelude.{◌≡◌, ◌≤◌, false, is_some, IfSome};
 ghost use Rattle.lg_http.specs.Meaning.Slots.{AreFree, slots_of};
 ghost use Rattle.lg_node.specs.Meaning.Nodes.{ServesIf, TellsServed, WatchesIf};

@@ -14,8 +14,6 @@ mod machine;
 mod meeting;
 mod playing;
 mod receiving;
-mod refused_memory;
 mod rotating;
-mod serving;
 mod ticking;
 mod wire;

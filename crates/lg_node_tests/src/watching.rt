@@ -68,7 +68,7 @@ where
     now: AtomicU64,
 }
 
-/// Hears a claim in a packet of a. If memory is refused, it is heard once more.
+/// Hears a claim in a packet of a.
 fn hear<A: AgentName, R: Wait>(
     rt: &R,
     alloc: Global,
@@ -78,19 +78,7 @@ fn hear<A: AgentName, R: Wait>(
 ) {
     let mut bytes = ArrayVec::new();
     encode(&packet(b'a', ping(1, b'b'), &[claim]), &mut bytes);
-    for _ in 0..2 {
-        let heard = pass.datagram(rt, alloc, now, local(7001), bytes.as_slice());
-        if heard.is_ok() {
-            return;
-        }
-    }
-}
-
-/// Ticks. If memory is refused, it does so once more.
-fn tick<A: AgentName, R: Wait>(rt: &R, alloc: Global, pass: &mut Pass<'_, A>, now: Moment) {
-    if pass.tick(rt, alloc, now, [0; 8]).is_err() {
-        let _ = pass.tick(rt, alloc, now, [0; 8]);
-    }
+    let _ = pass.datagram(rt, alloc, now, local(7001), bytes.as_slice());
 }
 
 impl<'a, 'p, A: AgentName, R: Wait> PausingClock<'a, 'p, A, R> {
@@ -125,7 +113,7 @@ impl<'a, 'p, A: AgentName, R: Wait> PausingClock<'a, 'p, A, R> {
     /// The agent ticks.
     fn tick(&self) {
         let mut guard = self.pass.lock(self.rt);
-        tick(self.rt, self.alloc, &mut guard, self.now());
+        let _ = guard.tick(self.rt, self.alloc, self.now(), [0; 8]);
         MutexGuard::unlock(guard);
     }
 }
@@ -216,19 +204,6 @@ fn run_in<A: AgentName, R: Wait>(
 /// Watches an agent, over a writer whose call with this number fails, counted from 1, or none if it is 0.
 fn run<R: Wait>(rt: &R, alloc: Global, watching: &Watching, fails_at: usize) -> Option<Outcome> {
     run_in::<Brand, R>(rt, alloc, UnnamedBook::new(), 2, watching, fails_at)
-}
-
-/// The same. If memory for the agent or its passes was refused, it is tried once more.
-fn run_at_last<R: Wait>(
-    rt: &R,
-    alloc: Global,
-    watching: &Watching,
-    fails_at: usize,
-) -> Option<Outcome> {
-    match run(rt, alloc, watching, fails_at) {
-        None => run(rt, alloc, watching, fails_at),
-        outcome => outcome,
-    }
 }
 
 /// One that is told to stop before its first look. A new member, which is suspected and fails. Two changes of a member
@@ -358,43 +333,9 @@ fn ends_where_the_writer_fails(rt: HostRuntime) {
     }
 }
 
-/// What is told if memory is refused to no look, or to the one that would have told of c or of the suspicion: what
-/// isn't told in one turn is told in the next, with the moment of its change. And what is told if memory is refused to
-/// the look that would have told of b: the first look that is told then finds c as well, and the moment of its packet.
-/// Each with the number of texts, so that c and the suspicion are told in turns of their own.
-const PUT_OFF: [(&str, usize); 2] = [
-    (
-        "0 record b alive 0 127.0.0.1:7000\n50 record c alive 0 127.0.0.1:7000\n\
-            150 record c suspect 0 127.0.0.1:7000 by a\n250 stood-still 150\n",
-        4,
-    ),
-    (
-        "50 record b alive 0 127.0.0.1:7000\n50 record c alive 0 127.0.0.1:7000\n\
-            150 record c suspect 0 127.0.0.1:7000 by a\n250 stood-still 150\n",
-        3,
-    ),
-];
-
 /// Whether a watcher wrote this text, and in so many pieces.
 fn has_told(outcome: &Outcome, text: &str, texts: usize) -> bool {
     outcome.watched == Watched::Told
         && outcome.writer.has(text.as_bytes())
         && outcome.writer.calls == text.len().saturating_add(texts)
-}
-
-/// If any one allocation is refused, no line is lost: it is told in the turn after that.
-#[test]
-fn tells_later_after_refused_memory(rt: HostRuntime) {
-    let watching = Watching {
-        stopped: false,
-        pauses: &[&[Alive(b'c', 0)], &[], &[Suspect(b'c', 0, b'a')], &[]],
-        texts: 4,
-        text: PUT_OFF[0].0,
-    };
-    let met = run_at_last(&rt, rt.alloc(), &watching, 0).is_some_and(|outcome| {
-        PUT_OFF
-            .iter()
-            .any(|(text, texts)| has_told(&outcome, text, *texts))
-    });
-    assert!(rt; met);
 }

@@ -1,7 +1,7 @@
 //! Checks a configuration file: reads it, and writes what it means. Nothing is run.
 //!
 //! Defined in: `specs/Meaning/Checking.antt`, `lg_check/specs/Meaning/Checks.antt`.
-//! Tested in: `cases/check.case`, `lg_command_tests/src/launch/checks.rt`.
+//! Tested in: `cases/check.case`, `lg_run_refusals/src/checks.rt`.
 ghost use Rattle.std.specs.Prelude.{◌≡◌};
 ghost use Rattle.lg_timing.specs.Meaning.Config.{IsChecked};
 ghost use Rattle.lg_check.specs.Meaning.Checks.{check_text};

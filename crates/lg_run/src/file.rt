@@ -1,7 +1,7 @@
 //! Reads a configuration file, and tells why that gave no bytes.
 //!
 //! Defined in: `specs/Meaning/Reporting.antt`, `specs/Meaning/Words.antt`.
-//! Tested in: `lg_command_tests/src/launch/ends.rt`, `checks.rt`.
+//! Tested in: `lg_command_tests/src/launch/ends.rt`, `lg_run_refusals/src/checks.rt`.
 ghost use Rattle.std.specs.Prelude.{◌≡◌, ◌⊎◌, [], string_bytes};
 ghost use Rattle.lg_run.specs.Meaning.Reporting.{TellsNoBytes, TellsUnread};
 ghost use Rattle.lg_run.specs.Meaning.Words.{read_reason};

@@ -152,38 +152,6 @@ fn tells_whom_rounds_chose(rt: HostRuntime) {
     }
 }
 
-/// The rounds of a history that is whole, and of one of which a part was cut off.
-const REFUSED: &[Row] = &[
-    ("all", NEVER, 0, 8, b"dce"),
-    ("the last one", 4, 4, 8, b"e"),
-];
-
-/// What is left of an agent, at the second try if the first one was refused memory.
-fn told_at_last<R: Wait>(rt: &R, alloc: Global, cut: usize) -> Result<Closed, Refusal> {
-    match told(rt, alloc, cut) {
-        Err(_) => told(rt, alloc, cut),
-        closed => closed,
-    }
-}
-
-/// Whether the rounds are told as a row says, by one history. If memory is refused once, they are told the next time.
-fn is_told_at_last<R: Wait>(rt: &R, alloc: Global, row: &Row) -> bool {
-    let (_, cut, from, to, letters) = *row;
-    let Ok(closed) = told_at_last(rt, alloc, cut) else {
-        return false;
-    };
-    chose(alloc, &closed, from, to, letters) || chose(alloc, &closed, from, to, letters)
-}
-
-/// Choices that were refused memory leave the history as it is.
-#[test]
-fn tells_choices_after_refused_memory(rt: HostRuntime) {
-    for row in REFUSED {
-        let (name, ..) = row;
-        assert!(rt; is_told_at_last(&rt, rt.alloc(), row), "{name}");
-    }
-}
-
 /// Whether an agent with eight entries has this base and this many entries after it, each from the first place or the
 /// opening. For the entries before the base there has to be a summary.
 fn is_left(closed: &Closed, base: u64, stored: usize) -> bool {

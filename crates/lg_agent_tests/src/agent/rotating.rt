@@ -10,7 +10,7 @@ use lg_agent_testing::Ending;
 const FULL: Want = Refused(Refusal::HistoryFull(3));
 
 /// One pass fills the history twice. Its places go on after those that were cut off, and so do the versions.
-pub(super) const FILLS_IT: &[Row] = &[
+const FILLS_IT: &[Row] = &[
     (0, Call::Event(Health(1)), Healthy(1, 1, 0)),
     (0, Call::Event(Health(2)), Healthy(2, 1, 0)),
     (0, Call::Event(Health(3)), FULL),

@@ -3,7 +3,7 @@ use super::calls::Happens::{Ask, Datagram, Health, Leave, Pull, Tick};
 use super::calls::{Call, Heard};
 use super::steps::Row;
 use super::wanted::Want::{Alive, Healthy, KnowsC, Left, Number, Refused, Round, Sent};
-use crate::playing::{Play, Shown, told, told_at_last};
+use crate::playing::{Play, Shown, told};
 use lg_agent::{CloseFault, Refusal};
 use lg_agent_testing::{Case, Ending, Outcome};
 use lg_packet::Fault;
@@ -59,14 +59,6 @@ const EACH_CALL: &[Row] = &[
     (0, Call::StatusOf(b'b'), Left(b'b', 7000)),
     (0, Call::Members, Number(2)),
 ];
-
-/// Plays each call of the only pass. If memory for the opening was refused, it is tried once more.
-pub fn play_each_call<R>(rt: &R, alloc: Global) -> Result<Outcome<Shown>, Refusal>
-where
-    R: Threads + Wait + rt::Clock + Sync,
-{
-    told_at_last(rt, alloc, Case::new(1, Play::Steps(EACH_CALL)))
-}
 
 /// The history has at most two entries.
 const FULL: &[Row] = &[
@@ -138,6 +130,7 @@ type AgentRow = (
 );
 
 const AGENTS: &[AgentRow] = &[
+    ("each call", 1, 0, 20_000, EACH_CALL, None, 7),
     ("full", 1, 0, 2, FULL, None, 2),
     ("short", 1, 0, 20_000, SHORT, None, 1),
     ("looks", 1, 0, 20_000, LOOKS, None, 2),

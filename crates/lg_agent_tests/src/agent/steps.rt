@@ -3,7 +3,7 @@ use super::calls::{Call, Seen, step};
 use super::leaving::{LeftBy, left_by};
 use super::wanted::Want;
 use crate::playing::Shown;
-use lg_agent::{AgentName, Pass, Refusal, Spent};
+use lg_agent::{AgentName, Pass, Spent};
 use lg_agent_testing::Left;
 use std::alloc::Global;
 use std::sync::Wait;
@@ -11,26 +11,6 @@ use std::thread::{Threads, join};
 
 /// The index of a pass, what it does, and what that should give.
 pub type Row = (usize, Call, Want);
-
-/// One call or look. If memory is refused, it is tried once more, and nothing may have changed before that.
-fn step_at_last<A: AgentName, R: Wait>(
-    rt: &R,
-    alloc: Global,
-    pass: &mut Pass<'_, A>,
-    call: Call,
-) -> Seen {
-    let seen = step(rt, alloc, pass, call);
-    if !seen.is(&Seen::Refused(Refusal::NoMemory)) {
-        return seen;
-    }
-    let between = step(rt, alloc, pass, Call::Version);
-    let again = step(rt, alloc, pass, call);
-    let unchanged = match &again {
-        Seen::Answered(answered) => between.is(&Seen::Number(answered.place)),
-        _ => true,
-    };
-    if unchanged { again } else { Seen::Wrong }
-}
 
 /// What a step of a pass, counted from 0, gives. A step of the second pass is made in another thread, if one can be
 /// started.
@@ -43,8 +23,8 @@ fn step_of<A: AgentName + Send + Sync, R: Threads + Wait + Sync>(
     call: Call,
 ) -> Seen {
     match (who, second) {
-        (0, _) => step_at_last(rt, alloc, first, call),
-        (1, Some(pass)) => join(rt, || step_at_last(rt, alloc, pass, call), || ()).0,
+        (0, _) => step(rt, alloc, first, call),
+        (1, Some(pass)) => join(rt, || step(rt, alloc, pass, call), || ()).0,
         _ => Seen::Wrong,
     }
 }

@@ -3,7 +3,6 @@ ghost use Rattle.std.specs.Prelude.{◌≡◌, []};
 
 use super::keeper::Keeper;
 use super::looks::{Checks, play_looks};
-use super::refused_memory::goes_on;
 use super::threads::{Read, play_threads};
 use lg_view::{Look, MembersFault, NoView, PairFault, PairName, UnnamedBook};
 use std::alloc::Global;
@@ -16,8 +15,6 @@ use std::thread::Threads;
 pub(super) enum Play {
     /// Two looks read while events are published.
     Looks,
-    /// Memory is refused once.
-    Refused,
     /// A writer and two readers run at once.
     Threads,
 }
@@ -27,8 +24,6 @@ pub(super) enum Play {
 pub(super) enum Shown {
     /// Whether each thing that has to hold held, or None if a look wasn't told of the opening.
     Looks(Option<Checks>),
-    /// Whether all went well, at the second try if memory was refused.
-    Refused(bool),
     /// How many events were published, and what each reader found.
     Threads(u64, Read, Read),
 }
@@ -55,7 +50,6 @@ fn play_kept<P: PairName + Send + Sync, R: Threads + Wait + Sync>(
 {
     match what {
         Play::Looks => Shown::Looks(play_looks(rt, alloc, keeper, one, two)),
-        Play::Refused => Shown::Refused(goes_on(rt, alloc, keeper, one)),
         Play::Threads => play_threads(rt, alloc, keeper, one, two),
     }
 }

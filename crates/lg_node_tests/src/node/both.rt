@@ -36,16 +36,6 @@ pub struct BothRun {
     follow: bool,
 }
 
-impl BothRun {
-    /// No link fails.
-    pub fn sound(follow: bool) -> BothRun {
-        BothRun {
-            fails_at: [0, 0],
-            follow,
-        }
-    }
-}
-
 /// How both loops ended, how often their links failed, and what a watcher told.
 #[derive(Clone, Copy)]
 pub struct BothSeen {

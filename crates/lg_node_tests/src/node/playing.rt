@@ -44,7 +44,7 @@ pub enum Shown {
     Found(Found),
 }
 
-/// Plays all passes of an agent, unless memory for them is refused.
+/// Plays all passes of an agent, if they are given out.
 fn run<A, R>(
     rt: &R,
     alloc: Global,
@@ -69,25 +69,6 @@ where
     }
 }
 
-/// Plays all passes of an agent. If memory for them is refused, it is tried once more.
-fn run_at_last<A, R>(
-    rt: &R,
-    alloc: Global,
-    agent: &mut Agent<A>,
-    spents: Vec<Spent<A>>,
-    play: Play,
-) -> Left<A, Shown>
-where
-    A: AgentName + Send + Sync,
-    R: Threads + Wait + rt::Clock + Sync,
-{
-    let Left { spents, seen } = run(rt, alloc, agent, spents, play);
-    match seen {
-        None => run(rt, alloc, agent, spents, play),
-        seen => Left { spents, seen },
-    }
-}
-
 /// Opens an agent, plays it, and closes it.
 fn play_case<A, R>(
     rt: &R,
@@ -103,7 +84,7 @@ where
     requires places { (places ≡ A.places) × (0 < places) × (places ≤ 32) }
 {
     let mut agent = case.open::<A, R>(rt, alloc, book, places)?;
-    let left = run_at_last(rt, alloc, &mut agent, room(alloc, places), case.play);
+    let left = run(rt, alloc, &mut agent, room(alloc, places), case.play);
     Ok(case.close(rt, alloc, agent, left))
 }
 
@@ -117,15 +98,4 @@ where
         return Err(Refusal::NoPlace);
     }
     play_case::<Brand, R>(rt, alloc, UnnamedBook::new(), places, case)
-}
-
-/// What a case tells. If memory for the opening was refused, it is tried once more.
-pub fn told_at_last<R>(rt: &R, alloc: Global, case: Case<Play>) -> Result<Outcome<Shown>, Refusal>
-where
-    R: Threads + Wait + rt::Clock + Sync,
-{
-    match told(rt, alloc, case) {
-        Err(Refusal::NoMemory) => told(rt, alloc, case),
-        other => other,
-    }
 }

@@ -1,10 +1,10 @@
 //! A node with a status server, whose loops end at once.
-use super::asking::free_port;
 use lg_node::{NodeStart, Served, Settings, run_node};
 use lg_testing::{Room, at, letter, local};
 use lg_timing::Config;
 use std::alloc::Global;
-use std::net::Net;
+use std::io;
+use std::net::{Ipv4Addr, Net, UdpSocket};
 use std::random::RandomSource;
 use std::rt::Clock;
 use std::sync::Wait;
@@ -17,6 +17,13 @@ const NOT_BEGUN: &[u8; 52] = b"the status server couldn't begin: memory is refus
 
 /// The port for which the system gives a free one.
 const ANY_PORT: u16 = 0;
+
+/// A port that is free: that of a socket which is closed again.
+fn free_port<R: Net>(rt: &R) -> io::Result<u16> {
+    let socket = UdpSocket::bind(rt, (Ipv4Addr::LOCALHOST, ANY_PORT))?;
+    let address = socket.local_addr()?;
+    Ok(address.port())
+}
 
 /// Runs b at a port, and tells its faults on a stream. Gives the end of its status server, if the node had loops.
 fn run_at<R>(rt: &R, alloc: Global, port: u16, faults: &mut Room) -> Option<Served>

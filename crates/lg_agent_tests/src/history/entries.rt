@@ -1,5 +1,4 @@
-//! Entries that are stored and read back. If memory is refused once, a second try succeeds. Nothing here refuses
-//! memory: `gate/refusals` runs each test once for each allocation, with that one refused.
+//! Entries that are stored and read back.
 use super::rows::{Row, all, opening, ping, question};
 use crate::comparing::is_same_event;
 use lg_detector_testing::is_same_reply;
@@ -14,17 +13,10 @@ fn is_of(entry: &Entry, seat: usize, row: &Row) -> bool {
         && entry.chosen() == row.chosen
 }
 
-/// Prepares the event of a row. If memory is refused, nothing is prepared and no entry is added, and a second try is
-/// made. Returns whether that was so and one of the two tries succeeded.
+/// Prepares the event of a row. Returns whether that succeeded, and no entry was added.
 fn is_prepared(history: &mut History, alloc: Global, seat: usize, row: &Row) -> bool {
     let before = history.len();
-    match history.prepare(alloc, seat, &row.event) {
-        Ok(()) => history.len() == before,
-        Err(_) => {
-            history.complete(alloc, &row.reply);
-            history.len() == before && history.prepare(alloc, seat, &row.event).is_ok()
-        }
-    }
+    history.prepare(alloc, seat, &row.event).is_ok() && history.len() == before
 }
 
 /// Adds the entry of a row, and reads it back. Returns whether it is the last entry, and one more than before.

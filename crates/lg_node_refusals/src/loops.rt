@@ -1,0 +1,245 @@
+//! One loop of a node by itself, and all threads of a node at once.
+ghost use Rattle.std.specs.Prelude.{◌≡◌};
+
+use crate::links::{PausedClock, PingLink, Signs};
+use arrayvec::ArrayVec;
+use lg_agent::{AgentName, Pass, Spent};
+use lg_node::{
+    ChangeSignal, Counters, Ended, Lookers, LoopEnd, PcgDice, Plan, Settings, Shared, Side, Sides,
+    StatusServer, Watched, join_threads, receive_loop, tick_loop,
+};
+use lg_rules::Name;
+use lg_testing::{Room, at, letter, local};
+use lg_timing::{Config, MAX_MOMENT};
+use std::alloc::Global;
+use std::rt;
+use std::sync::Wait;
+use std::sync::atomic::AtomicBool;
+use std::sync::atomic::Ordering::SeqCst;
+use std::thread::Threads;
+
+/// How many turns a loop may make. A turn that has nothing to do lasts a millisecond or more.
+const BOUND: u64 = 20_000;
+
+/// How long a turn waits at most, in milliseconds.
+const WAIT_MS: u64 = 20;
+
+/// Which loop runs by itself.
+#[derive(Clone, Copy, Debug)]
+pub enum Alone {
+    Receiving,
+    /// The ticking one, until this moment. The member may leave then.
+    Ticking(u64, bool),
+}
+
+/// What a loop did that ran by itself.
+#[derive(Clone, Copy)]
+pub struct AloneSeen {
+    pub end: LoopEnd,
+    /// How many calls of its pass were answered, and how many were refused, as the status server would tell.
+    pub answered: u64,
+    pub refused: u64,
+    /// How many packets it handed over.
+    pub handed: usize,
+    /// Whether the other loops are told to stop.
+    pub stop: bool,
+}
+
+/// What loops note for others.
+#[derive(Drop)]
+struct Noted {
+    page_heard: AtomicBool,
+    counters: Counters,
+    changes: ChangeSignal,
+}
+
+impl Noted {
+    /// Nothing is noted so far of the member of this name.
+    fn new(name: Name) -> Noted
+        ensures { result.counters.name ≡ name }
+    {
+        Noted {
+            page_heard: AtomicBool::new(false),
+            counters: Counters::new(name, at(0)),
+            changes: ChangeSignal::new(),
+        }
+    }
+}
+
+/// What the loops share: one clock, and the flag by which they are told to stop.
+fn shared<'a, R>(
+    rt: &'a R,
+    alloc: Global,
+    clock: &'a PausedClock<'a, R>,
+    stop: &'a AtomicBool,
+    noted: &'a Noted,
+) -> Shared<'a, R, PausedClock<'a, R>>
+    ensures bound { result.bound ≡ BOUND }
+    ensures name { result.counters.now.name ≡ noted.now.counters.name }
+{
+    Shared {
+        rt,
+        alloc,
+        clock,
+        stop,
+        over: stop,
+        page_heard: &noted.page_heard,
+        group: None,
+        counters: &noted.counters,
+        changes: &noted.changes,
+        signal: None,
+        bound: BOUND,
+        endless: false,
+        wait_ms: WAIT_MS,
+    }
+}
+
+/// A plan of ticks until a moment, at which the member may leave. It doesn't linger then.
+fn ticks_until(until: u64, leaves: bool) -> Plan {
+    Plan {
+        name: Name::default(),
+        seeds: ArrayVec::new(),
+        interval_ms: 0,
+        pull_ms: 0,
+        until: at(until),
+        leaves,
+    }
+}
+
+/// Runs one loop with a pass.
+pub fn run_alone<A: AgentName, R: Wait + rt::Clock>(
+    rt: &R,
+    alloc: Global,
+    pass: Pass<'_, A>,
+    alone: Alone,
+) -> (AloneSeen, Spent<A>) {
+    let signs = Signs::new(false);
+    let clock = PausedClock::new(rt, true);
+    let noted = Noted::new(Name::default());
+    let shared = shared(rt, alloc, &clock, &signs.stop, &noted);
+    let side = Side::new(pass, PingLink::new(rt, &signs));
+    let Ended { link, spent, end } = match alone {
+        Alone::Receiving => receive_loop(&shared, side),
+        Alone::Ticking(until, leaves) => {
+            tick_loop(&shared, side, PcgDice::new(0), ticks_until(until, leaves))
+        }
+    };
+    let seen = AloneSeen {
+        end,
+        answered: spent.made(),
+        refused: noted.counters.counts().calls_refused,
+        handed: link.handed,
+        stop: signs.stop.load(SeqCst),
+    };
+    (seen, spent)
+}
+
+/// What a watcher has told.
+#[derive(Clone, Copy, Debug, PartialEq, Eq)]
+pub enum Text {
+    /// Nothing.
+    Empty,
+    /// Its last line alone.
+    End,
+    /// The records of b and c, which are known from the start, and its last line; or that of d too before the last line.
+    Known,
+    Other,
+}
+
+/// The texts of a watcher.
+const TEXTS: [(Text, &[u8]); 4] = [
+    (Text::Empty, b""),
+    (Text::End, b"0 stood-still 0\n"),
+    (
+        Text::Known,
+        b"0 record b alive 0 127.0.0.1:7000\n0 record c alive 0 127.0.0.1:7003\n0 stood-still 0\n",
+    ),
+    (
+        Text::Known,
+        b"0 record b alive 0 127.0.0.1:7000\n0 record c alive 0 127.0.0.1:7003\n\
+            0 record d alive 0 127.0.0.1:7004\n0 stood-still 0\n",
+    ),
+];
+
+impl Text {
+    /// What was written.
+    fn of(writer: &Room) -> Text {
+        for (text, bytes) in TEXTS {
+            if writer.has(bytes) {
+                return text;
+            }
+        }
+        Text::Other
+    }
+}
+
+/// How both loops ended, and how the watcher did, if there was one.
+#[derive(Clone, Copy)]
+pub struct BothSeen {
+    pub receiving: LoopEnd,
+    pub ticking: LoopEnd,
+    pub watched: Option<Watched>,
+    pub text: Text,
+}
+
+/// Runs the threads of a node that nobody asks, with four passes, until its link tells it to stop. There may be a
+/// watcher. Nothing comes of fewer passes.
+pub fn run_both<A, R>(
+    rt: &R,
+    alloc: Global,
+    passes: Vec<Pass<'_, A>>,
+    follow: bool,
+) -> Option<(BothSeen, [Spent<A>; 4])>
+where
+    A: AgentName + Send + Sync,
+    R: Threads + Wait + rt::Clock + Sync,
+{
+    let mut passes = passes;
+    let (status, watcher) = (passes.pop()?, passes.pop()?);
+    let (ticker, receiver) = (passes.pop()?, passes.pop()?);
+    let name = letter(b'b');
+    let config = Config::new(name, local(7102));
+    let settings = Settings {
+        dice: 1,
+        pull_ms: 0,
+        stall_ms: 0,
+        follow,
+        status: None,
+        status_open: false,
+        keys: None,
+    };
+    let signs = Signs::new(true);
+    let clock = PausedClock::new(rt, false);
+    let noted = Noted::new(name);
+    let shared = shared(rt, alloc, &clock, &signs.stop, &noted);
+    let sides = Sides::of(
+        Side::new(receiver, PingLink::new(rt, &signs)),
+        Side::new(ticker, PingLink::new(rt, &signs)),
+        PcgDice::new(0),
+        ticks_until(MAX_MOMENT, false),
+    );
+    let server: Option<StatusServer<'_, '_, R>> = None;
+    let lookers = Lookers {
+        config: &config,
+        settings: &settings,
+        watcher,
+        status,
+        server,
+    };
+    let (mut writer, mut faults) = (Room::failing(0), Room::failing(0));
+    let (looked, (both, _)) = join_threads(&shared, sides, lookers, &mut writer, &mut faults);
+    let (received, ticked) = both;
+    let seen = BothSeen {
+        receiving: received.end,
+        ticking: ticked.end,
+        watched: looked.watched,
+        text: Text::of(&writer),
+    };
+    let left = [
+        looked.watcher.finish(),
+        looked.status.finish(),
+        received.spent,
+        ticked.spent,
+    ];
+    Some((seen, left))
+}
