@@ -336,10 +336,6 @@ fn play_in<A: AgentName, R: Wait>(
 }
 
 /// Does the steps with an agent of its own.
-pub fn play<R: Wait>(
-    rt: &R,
-    alloc: Global,
-    steps: &[Step<'_>],
-) -> Option<Option<usize>> {
+pub fn play<R: Wait>(rt: &R, alloc: Global, steps: &[Step<'_>]) -> Option<Option<usize>> {
     play_in::<Brand, R>(rt, alloc, UnnamedBook::new(), 2, steps)
 }

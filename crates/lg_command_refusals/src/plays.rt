@@ -3,6 +3,25 @@ use lg_commands::{Numbers, answer_named, order_lists, simulate, timeouts_of};
 use lg_testing::Room;
 use lg_text::{RunFault, read_input, report, write_whole};
 use std::alloc::Global;
+use std::io;
+use std::io::Read;
+
+/// A reader that gives one byte a call, so that what is read grows step by step.
+#[derive(Drop)]
+struct Bytes<'a> {
+    left: &'a [u8],
+}
+
+impl Read for Bytes<'_> {
+    fn read(&mut self, buf: &mut [u8]) -> io::Result<usize> {
+        if buf.is_empty() || self.left.is_empty() {
+            return Ok(0);
+        }
+        buf[0] = self.left[0];
+        self.left = &self.left[1..];
+        Ok(1)
+    }
+}
 
 /// A command that is run over streams.
 #[derive(Clone, Copy, Debug)]
@@ -74,16 +93,15 @@ pub const PLAYS: [Play; 6] = [
 ];
 
 /// Reads an input whole and writes it.
-fn copy(alloc: Global, input: &[u8], writer: &mut Room) -> Result<(), RunFault> {
-    let mut reader = input;
-    let input = read_input(alloc, &mut reader)?;
+fn copy(alloc: Global, reader: &mut Bytes<'_>, writer: &mut Room) -> Result<(), RunFault> {
+    let input = read_input(alloc, reader)?;
     write_whole(writer, &input)?;
     Ok(())
 }
 
 /// The status of copying an input. A fault is reported as the commands do it.
-fn copying(alloc: Global, input: &[u8], writer: &mut Room, faults: &mut Room) -> u8 {
-    match copy(alloc, input, writer) {
+fn copying(alloc: Global, reader: &mut Bytes<'_>, writer: &mut Room, faults: &mut Room) -> u8 {
+    match copy(alloc, reader, writer) {
         Ok(()) => 0,
         Err(fault) => {
             report(faults, fault.text());
@@ -102,9 +120,9 @@ impl Command {
             beta: 6,
             interval_ms: 1000,
         };
-        let mut reader = input;
+        let mut reader = Bytes { left: input };
         match self {
-            Command::Copying => copying(alloc, input, writer, faults),
+            Command::Copying => copying(alloc, &mut reader, writer, faults),
             Command::Sim => simulate(alloc, &mut reader, writer, faults),
             Command::Answer => answer_named(alloc, "b", &mut reader, writer, faults),
             Command::Order => order_lists(alloc, "a,b", "0,0,1,0", writer, faults),
