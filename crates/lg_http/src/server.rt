@@ -18,7 +18,7 @@ use lg_clock::Clock;
 use lg_timing::Moment;
 use mio::net::TcpStream;
 use mio::{Events, Poll, Token};
-use std::alloc::Global;
+use std::alloc::{AllocError, Global};
 use std::hash::RandomState;
 use std::io;
 use std::io::ErrorKind;
@@ -81,6 +81,26 @@ pub struct Server {
     told: Option<Told>,
 }
 
+// What a server is made of is made in two functions, so that the checker takes apart few values if something fails.
+
+/// What is allocated when a server is made. The error is refused memory.
+fn room(alloc: Global) -> Result<(Events, Slots), AllocError>
+    ensures free { IfOk result (λ made. AreFree made.1.slots.items) }
+    ensures ended { IfOk result (λ made. made.1.ended.items ≡ []) }
+{
+    let events = Events::with_capacity(alloc, MAX_PEERS)?;
+    let slots = Slots::new(alloc)?;
+    Ok((events, slots))
+}
+
+/// What waits for the listener, and for the signal by which other threads reach the server. The error is the system's.
+fn watch(rt: &impl Net, listener: &mut Listener) -> io::Result<(Poll, Signal)> {
+    let poll = Poll::new(rt)?;
+    let signal = Signal::new(poll.registry(), SIGNAL)?;
+    listener.register(poll.registry(), LISTENER)?;
+    Ok((poll, signal))
+}
+
 /// Notes which sockets are ready. Gives whether a client may be waiting.
 fn note_events<S: Site>(events: &Events, slots: &mut Slots) -> bool
     ensures { (hosts : Hosts) (site : S)
@@ -111,16 +131,16 @@ impl Server {
         ensures free { IfOk result (λ made. AreFree (slots_of made.0)) }
         ensures ended { IfOk result (λ made. ended_of made.0 ≡ []) }
     {
-        let poll = Poll::new(rt)?;
-        let signal = Signal::new(poll.registry(), SIGNAL)?;
-        listener.register(poll.registry(), LISTENER)?;
+        let keys = RandomState::new(rt)?;
+        let (events, slots) = room(alloc)?;
+        let (poll, signal) = watch(rt, &mut listener)?;
         let server = Server {
             alloc,
-            keys: RandomState::new(rt)?,
+            keys,
             poll,
-            events: Events::with_capacity(alloc, MAX_PEERS)?,
+            events,
             listener,
-            slots: Slots::new(alloc)?,
+            slots,
             can_accept: true,
             accept_from: 0,
             counts: ServerCounts::default(),
@@ -275,6 +295,8 @@ impl Server {
             self.slots.put::<S>(number, peer, at);
             self.counts.accepted = self.counts.accepted.wrapping_add(1);
         } else {
+            // So that the checker doesn't take it apart here.
+            drop(peer);
             self.counts.failed = self.counts.failed.wrapping_add(1);
         }
     }

@@ -3,7 +3,7 @@
 //! Defined in: `specs/Meaning/Slots.antt`.
 //! Tested in: `lg_http_tests/src/serving.rt`, `lg_http_tests/src/crowd.rt`.
 ghost use Rattle.std.specs.Prelude.{◌≡◌, ◌≤◌, ◌<◌, ◌+◌, ◌-◌, [], length, get_or, position, replicate, All};
-ghost use Rattle.std.specs.Prelude.{IfOk, IfSome, IsSome};
+ghost use Rattle.std.specs.Prelude.{IfOk, IfSome, IsSome, Some, None};
 ghost use Rattle.lg_http.specs.declared.hosts.Hosts.{Hosts};
 ghost use Rattle.lg_http.specs.Meaning.Answers.{RepliesAmong, Replies};
 ghost use Rattle.lg_http.specs.Meaning.Parked.{parked_count, parked_in};
@@ -77,6 +77,23 @@ fn run_peer<S: Site>(peer: &mut Peer, desk: &mut Desk<S>, turn: &Turn) -> Option
     }
 }
 
+// The next two are apart and take any type, so that the checker doesn't take a connection apart at each place that drops
+// one.
+
+/// Frees a place. What it had is dropped.
+fn free<T: Drop>(place: &mut Option<T>)
+    ensures { place.new ≡ None }
+{
+    *place = None;
+}
+
+/// Puts a value into a place. What it had is dropped.
+fn fill<T: Drop>(place: &mut Option<T>, value: T)
+    ensures { place.new ≡ Some value }
+{
+    *place = Some(value);
+}
+
 /// Lets the connection of a slot do what it can. One that is over is noted among the ended, and its slot is free. Gives
 /// how long it may wait then, in milliseconds.
 fn run_slot<S: Site>(
@@ -101,7 +118,7 @@ fn run_slot<S: Site>(
         return wait_ms;
     }
     *ended = ended.and(peer, &turn.at);
-    *slot = None;
+    free(slot);
     u64::MAX
 }
 
@@ -303,6 +320,6 @@ impl Slots {
             ≡ noted_from self.old.ended.items at (get_or self.old.slots.items number None) }
     {
         note_end(&mut self.ended, &self.slots[number], at);
-        self.slots[number] = Some(peer);
+        fill(&mut self.slots[number], peer);
     }
 }

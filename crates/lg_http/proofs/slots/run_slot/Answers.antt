@@ -7,4 +7,4 @@ returns-in-Some-run_peer-clause-had g c =
 
 pub returns-clause-had : goal.returns-clause-had
 returns-clause-had g c =
-    rw c.in-Some.is (c.run_peer.new.peer, c.run_peer.ensures.answers, inr (refl, (c.args.turn.now.at, c.and.ensures)))
+    rw c.in-Some.is (c.run_peer.new.peer, c.run_peer.ensures.answers, inr (c.free.ensures, (c.args.turn.now.at, c.and.ensures)))
