@@ -1,14 +1,16 @@
 -- The numbers and flags of a command line, by what reading them gives, and the command as it is built.
-use Rattle.std.proofs.Common.{◌≡◌, ℕ, ◌<◌, ◌^◌, Bool, true, false, ◌||◌, cond, [], ◌∷◌, Option, Some, None, Result, Ok, Err, inl, inr, refl, sym, ap, ap₂, ◌∙◌, arith, codes}
+use Rattle.std.proofs.Common.{◌≡◌, ℕ, ◌<◌, ◌^◌, Bool, true, false, ◌||◌, cond, [], ◌∷◌, Option, Some, None, Result, Ok, Err, inl, inr, refl, sym, ap, ap₂, ◌∙◌, arith, codes, ◌+◌, ◌≤◌, List, length, get_or, take, subst, fold}
 use Rattle.std.specs.Prelude.{unwrap_or}
 use Rattle.std.specs.Option.{option_map_or}
 use Rattle.std.specs.Str.{bytes_eq}
 use Rattle.std.specs.Str.Parse.{IsNumeral, ParsesBool, ParsesUnsigned, digits_value, true_text, without_leading_plus}
 use Rattle.std.proofs.lemmas.Slice.Eq.{bytes_eq-Decides}
+use Rattle.std.proofs.lemmas.List.{take_all}
+use Rattle.std.proofs.lemmas.List.Sums.{fold_more}
 use Rattle.clap.specs.Built.{AddsArg}
 use Rattle.clap.specs.Kinds.{Kinds, HasKind, IsAmong, or_else}
 use Rattle.clap.specs.Matches.{ReadsOne}
-use Rattle.clap.specs.Simple.{App, app_of, with_rule}
+use Rattle.clap.specs.Simple.{App, app_of, with_rule, with_subcommand}
 use Rattle.clap.specs.ValueTests.{accepts}
 use Rattle.clap.specs.Walk.{Rule, Text, rule_of}
 use Rattle.clap.specs.declared.builder.arg.Arg.{Arg}
@@ -19,7 +21,10 @@ use Rattle.clap.specs.declared.error.kind.ErrorKind.{ErrorKind}
 use Rattle.clap.specs.declared.builder.value_parser.ValueParser.{ValueParser}
 use Rattle.clap.specs.declared.builder.value_parser.ValueParser.TheVariants.{Unsigned}
 use Rattle.clap.proofs.ValueTestLemmas.{accepts-Accepts, Accepts-accepts}
+use Rattle.lg_command_line.specs.declared.command.CommandRow.{CommandRow}
+use Rattle.lg_command_line.specs.declared.options.OptionRow.{OptionRow}
 use Rattle.lg_command_line.specs.Meaning.Commands.{option_number}
+use Rattle.lg_command_line.specs.Support.Options.{app_of_row, rule_of_row, with_option, with_row, with_rows}
 
 abbrev any_number : ValueParser
 any_number = Unsigned 0 18446744073709551615
@@ -83,6 +88,38 @@ adds_rule old new arg app rule adds local is made = record {
   is = adds.shape local ∙ ap₂ with_rule made.is is;
   local = adds.globals ∙ ap₂ (λ (a b : Bool). a || b) made.local local;
 }
+
+-- one row more of a command's options
+pub adds_row : (old new : Command) (arg : Arg) (start : App) (rows : List OptionRow) (i : ℕ) (d : OptionRow) → i < length rows
+    → AddsArg old arg new → arg.global ≡ false → rule_of arg ≡ rule_of_row (get_or rows i d)
+    → MakesApp old (fold with_option start (take i rows)) → MakesApp new (fold with_option start (take (i + 1) rows))
+adds_row old new arg start rows i d within adds local is made =
+    subst (MakesApp new) (sym (fold_more with_option start rows i d within)) (adds_rule old new arg _ _ adds local is made)
+
+-- all rows of a command's options
+pub has_rows : (command : Command) (start : App) (rows : List OptionRow) (n : ℕ) → length rows ≤ n
+    → MakesApp command (fold with_option start (take n rows)) → MakesApp command (fold with_option start rows)
+has_rows command start rows n all made =
+    subst (λ (some : List OptionRow). MakesApp command (fold with_option start some)) (take_all n rows all) made
+
+-- one command more
+pub one_row_more : (old new : Command) (start : App) (rows : List CommandRow) (i : ℕ) (d : CommandRow) → i < length rows
+    → app_of new ≡ with_subcommand (app_of old) (app_of_row (get_or rows i d)).top
+    → app_of old ≡ with_rows start (take i rows) → app_of new ≡ with_rows start (take (i + 1) rows)
+unfolding with_rows
+one_row_more old new start rows i d within adds made =
+    adds ∙ ap (λ (lg : App). with_row lg (get_or rows i d)) made ∙ sym (fold_more with_row start rows i d within)
+
+-- all commands
+pub all_rows : (command : Command) (start : App) (rows : List CommandRow) (n : ℕ) → length rows ≤ n
+    → app_of command ≡ with_rows start (take n rows) → app_of command ≡ with_rows start rows
+all_rows command start rows n all made = made ∙ ap (with_rows start) (take_all n rows all)
+
+-- the program with its commands is this
+pub program_is : (command : Command) (lg bare whole : App) (rows : List CommandRow) → app_of command ≡ with_rows lg rows → lg ≡ bare
+    → fold with_row bare rows ≡ whole → app_of command ≡ whole
+unfolding with_rows
+program_is command lg bare whole rows made same is = made ∙ ap (λ (a : App). fold with_row a rows) same ∙ is
 
 -- ---- why a command line is refused
 

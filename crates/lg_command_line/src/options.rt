@@ -5,16 +5,59 @@
 ghost use Rattle.std.specs.Prelude.{◌≡◌, decimal, false};
 ghost use Rattle.clap.specs.Walk.{rule_of};
 ghost use Rattle.lg_timing.specs.Meaning.Keys.{row_of};
-ghost use Rattle.lg_command_line.specs.Meaning.Commands.{default_text_rule, flag_rule, key_rule};
-ghost use Rattle.lg_command_line.specs.Meaning.Commands.{number_rule, text_rule};
+ghost use Rattle.lg_command_line.specs.Meaning.Commands.{default_rule, default_text_rule, flag_rule};
+ghost use Rattle.lg_command_line.specs.Meaning.Commands.{number_rule, required_rule, text_rule};
+ghost use Rattle.lg_command_line.specs.Support.Options.{rule_of_row};
 
 use clap::builder::ValueParser;
 use clap::{Arg, ArgAction};
 use lg_timing::Key;
 use std::alloc::Global;
 
+/// What an option takes.
+pub(crate) enum Takes<'a> {
+    /// A text, which has this name in the help and has to be given.
+    RequiredText(&'a str),
+    /// A text, which has this name in the help, with its default.
+    DefaultText(&'a str, &'a str),
+    /// A number from the first to the second, which has to be given.
+    RequiredNumber(u64, u64),
+    /// A number from the first to the second.
+    Number(u64, u64),
+    /// A number of the configuration, with the default of its key. A 0 below the key's range is refused, so no option
+    /// is of a key whose 0 turns something off. The parser wants the default as a text.
+    OfKey(Key, &'a str),
+    /// No value.
+    Nothing,
+}
+
+/// An option, as the table of the commands has it.
+pub(crate) struct OptionRow<'a> {
+    pub(crate) id: &'a str,
+    pub(crate) takes: Takes<'a>,
+    pub(crate) help: &'a str,
+}
+
+/// The option of a row.
+pub(crate) fn option_of<'a>(alloc: Global, row: &OptionRow<'a>) -> Arg<'a>
+    ensures rule { rule_of result ≡ rule_of_row row.now }
+    ensures local { result.global ≡ false }
+{
+    let (id, help) = (row.id, row.help);
+    match row.takes {
+        Takes::RequiredText(text) => text_option(alloc, id, text, help),
+        Takes::DefaultText(text, default) => default_text_option(alloc, id, text, default, help),
+        Takes::RequiredNumber(least, most) => {
+            number_option(alloc, id, least, most, help).required(true)
+        }
+        Takes::Number(least, most) => number_option(alloc, id, least, most, help),
+        Takes::OfKey(key, default) => key_option(alloc, id, key, default, help),
+        Takes::Nothing => flag_option(alloc, id, help),
+    }
+}
+
 /// The option `--ID TEXT`, which is required, with its help.
-pub(crate) fn text_option<'a>(alloc: Global, id: &'a str, text: &'a str, help: &'a str) -> Arg<'a>
+fn text_option<'a>(alloc: Global, id: &'a str, text: &'a str, help: &'a str) -> Arg<'a>
     ensures rule { rule_of result ≡ text_rule id.entry.now }
     ensures local { result.global ≡ false }
 {
@@ -27,7 +70,7 @@ pub(crate) fn text_option<'a>(alloc: Global, id: &'a str, text: &'a str, help: &
 }
 
 /// The option `--ID TEXT`, which has a default, with its help.
-pub(crate) fn default_text_option<'a>(
+fn default_text_option<'a>(
     alloc: Global,
     id: &'a str,
     text: &'a str,
@@ -46,13 +89,7 @@ pub(crate) fn default_text_option<'a>(
 }
 
 /// The option `--ID N`, a number that is at least `least` and at most `most`, with its help.
-pub(crate) fn number_option<'a>(
-    alloc: Global,
-    id: &'a str,
-    least: u64,
-    most: u64,
-    help: &'a str,
-) -> Arg<'a>
+fn number_option<'a>(alloc: Global, id: &'a str, least: u64, most: u64, help: &'a str) -> Arg<'a>
     ensures rule { rule_of result ≡ number_rule id.entry.now least most }
     ensures local { result.global ≡ false }
 {
@@ -64,18 +101,10 @@ pub(crate) fn number_option<'a>(
         .action(ArgAction::Set)
 }
 
-/// The option `--ID N` of a number of the configuration, with its help. The range is that of the key. A 0 below it is
-/// refused, so no option is of a key whose 0 turns something off. The default is that of the key too: the parser wants
-/// it as a text, which is written at the call and proved to be the key's.
-pub(crate) fn key_option<'a>(
-    alloc: Global,
-    id: &'a str,
-    key: Key,
-    default: &'a str,
-    help: &'a str,
-) -> Arg<'a>
-    requires { default.now ≡ decimal (row_of key).default }
-    ensures rule { rule_of result ≡ key_rule id.entry.now key }
+/// The option `--ID N` of a number of the configuration, with its default and its help. The range is that of the key.
+fn key_option<'a>(alloc: Global, id: &'a str, key: Key, default: &'a str, help: &'a str) -> Arg<'a>
+    ensures rule { rule_of result
+        ≡ default_rule (number_rule id.entry.now (row_of key).least (row_of key).most) default.entry.now }
     ensures local { result.global ≡ false }
 {
     let row = key.row();
@@ -83,7 +112,7 @@ pub(crate) fn key_option<'a>(
 }
 
 /// The option `--ID`, which takes no value, with its help.
-pub(crate) fn flag_option<'a>(alloc: Global, id: &'a str, help: &'a str) -> Arg<'a>
+fn flag_option<'a>(alloc: Global, id: &'a str, help: &'a str) -> Arg<'a>
     ensures rule { rule_of result ≡ flag_rule id.entry.now }
     ensures local { result.global ≡ false }
 {
