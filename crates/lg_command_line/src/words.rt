@@ -2,14 +2,14 @@
 //!
 //! Defined in: `specs/Meaning/Commands.antt`, `lg_commands/specs/Meaning/Timeouts.antt`.
 //! Tested in: `cases/command_line.case`, `cases/timeouts_command.case`, `cases/node_command.case`.
-ghost use Rattle.std.specs.Prelude.{◌≡◌, ◌≤◌, IfOk, IfSome, map, true};
+ghost use Rattle.std.specs.Prelude.{◌≡◌, ◌≤◌, IfOk, IfSome, Some, map, true};
 ghost use Rattle.clap.specs.Kinds.{FailsBy};
 ghost use Rattle.clap.specs.Matches.{found_of};
-ghost use Rattle.clap.specs.Simple.{subcommand_rows_of};
+ghost use Rattle.clap.specs.Simple.{app_of, subcommand_rows_of};
 ghost use Rattle.clap.specs.Walk.{rows_of};
 ghost use Rattle.lg_commands.specs.Meaning.Timeouts.{are_good};
 ghost use Rattle.lg_command_line.specs.Meaning.Commands.{ask_of_rows, asked, has_good_numbers, line_faults};
-ghost use Rattle.lg_command_line.specs.Meaning.Commands.{flag_in, number_given, number_in, numbers_in};
+ghost use Rattle.lg_command_line.specs.Meaning.Commands.{flag_in, lg_app, node_of_rows, number_given, number_in, numbers_in};
 ghost use Rattle.lg_command_line.specs.Meaning.Commands.{request_faults, request_of_rows, text_in};
 ghost use Rattle.lg_command_line.specs.Meaning.Commands.{IfNode, IfTimeouts};
 ghost use Rattle.lg_command_line.specs.Support.Requests.{request_of};
@@ -35,8 +35,25 @@ pub(crate) fn read_words<'a, S: AsStr>(alloc: Global, words: &'a [S]) -> Result<
     ensures refused { FailsBy (line_faults (map S.text words.entry.now)) result }
 {
     let mut lg = lg_command(alloc)?;
+    let asked = read_with(&mut lg, words);
+    // So that the checker doesn't take it apart here.
+    drop(lg);
+    asked
+}
+
+/// The same of a program that is this one.
+fn read_with<'a, S: AsStr>(lg: &mut Command<'a>, words: &'a [S]) -> Result<Asked<'a>, Error>
+    requires { app_of lg.old ≡ lg_app }
+    ensures asked { IfOk result (λ found. request_of found ≡ asked (map S.text words.entry.now)) }
+    ensures good { IfOk result (λ found. has_good_numbers (request_of found) ≡ true) }
+    ensures refused { FailsBy (line_faults (map S.text words.entry.now)) result }
+{
     match lg.try_get_matches_from_mut(words) {
-        Ok(matches) => checked(asked_in(&matches), &mut lg),
+        Ok(matches) => {
+            let asked = asked_in(&matches);
+            drop(matches);
+            checked(asked, lg)
+        }
         Err(error) => Err(error),
     }
 }
@@ -61,30 +78,46 @@ fn asked_in<'a>(matches: &ArgMatches<'a>) -> Asked<'a>
     ensures { request_of result ≡ request_of_rows (subcommand_rows_of matches.now) }
 {
     match matches.subcommand() {
-        Some(("sim", _)) => Asked::Sim,
-        Some(("node", found)) => Asked::Node {
+        Some((name, found)) => asked_of(name, found),
+        None => Asked::Answer { name: "" },
+    }
+}
+
+/// What the command of this name asks for, with the options that were found.
+fn asked_of<'a>(name: &str, found: &ArgMatches<'a>) -> Asked<'a>
+    ensures { request_of result ≡ request_of_rows (Some (name.now, rows_of (found_of found.now))) }
+{
+    match name {
+        "sim" => Asked::Sim,
+        "node" => node_in(found),
+        "check" => Asked::Check {
             file: text_in(found, "config"),
-            for_ms: number_given(found, "for-ms"),
-            follow: flag_in(found, "follow"),
-            until_input_ends: flag_in(found, "until-input-ends"),
         },
-        Some(("check", found)) => Asked::Check {
-            file: text_in(found, "config"),
-        },
-        Some(("timeouts", found)) => Asked::Timeouts {
+        "timeouts" => Asked::Timeouts {
             numbers: numbers_in(found),
         },
-        Some(("order", found)) => Asked::Order {
+        "order" => Asked::Order {
             names: text_in(found, "names"),
             words: text_in(found, "words"),
         },
-        Some(("members", found)) => ask_in(Question::Members, found),
-        Some(("status", found)) => ask_in(Question::Status, found),
-        Some(("watch", found)) => ask_in(Question::Watch, found),
-        Some((_, found)) => Asked::Answer {
+        "members" => ask_in(Question::Members, found),
+        "status" => ask_in(Question::Status, found),
+        "watch" => ask_in(Question::Watch, found),
+        _ => Asked::Answer {
             name: text_in(found, "name"),
         },
-        None => Asked::Answer { name: "" },
+    }
+}
+
+/// The command `node`, with its options.
+fn node_in<'a>(found: &ArgMatches<'a>) -> Asked<'a>
+    ensures { request_of result ≡ node_of_rows (rows_of (found_of found.now)) }
+{
+    Asked::Node {
+        file: text_in(found, "config"),
+        for_ms: number_given(found, "for-ms"),
+        follow: flag_in(found, "follow"),
+        until_input_ends: flag_in(found, "until-input-ends"),
     }
 }
 
