@@ -6,7 +6,7 @@ ghost use Rattle.std.specs.Prelude.{◌≡◌, IfOk, false};
 ghost use Rattle.clap.specs.Simple.{app_of, with_subcommand};
 ghost use Rattle.clap.specs.declared.builder.command.Command.TheViews.{out-Command as fields_of};
 ghost use Rattle.lg_command_line.specs.Meaning.Commands.{lg_app};
-ghost use Rattle.lg_command_line.specs.Support.Options.{app_of_row, with_rows};
+ghost use Rattle.lg_command_line.specs.Support.Options.{app_of_row, bare_lg, with_rows};
 
 use crate::asked::{DEFAULT_AT, MAX_RUN_MS};
 use crate::options::{OptionRow, Takes, option_of};
@@ -195,13 +195,19 @@ fn with_commands<'a>(
     Ok(with_some)
 }
 
+/// The program before it has commands, one of which will have to be named.
+fn bare_lg<'a>(alloc: Global) -> Command<'a>
+    ensures { app_of result ≡ bare_lg }
+{
+    Command::new(alloc, "lg")
+        .about("A SWIM failure detector with Lifeguard's extensions")
+        .version(VERSION)
+        .subcommand_required(true)
+}
+
 /// The program with its commands, one of which has to be named.
 pub(crate) fn lg_command<'a>(alloc: Global) -> Result<Command<'a>, AllocError>
     ensures { IfOk result (λ command. app_of command ≡ lg_app) }
 {
-    let lg = Command::new(alloc, "lg")
-        .about("A SWIM failure detector with Lifeguard's extensions")
-        .version(VERSION)
-        .subcommand_required(true);
-    with_commands(alloc, lg, &COMMANDS)
+    with_commands(alloc, bare_lg(alloc), &COMMANDS)
 }

@@ -7,7 +7,7 @@ ghost use Rattle.clap.specs.Walk.{rule_of};
 ghost use Rattle.lg_timing.specs.Meaning.Keys.{row_of};
 ghost use Rattle.lg_command_line.specs.Meaning.Commands.{default_rule, default_text_rule, flag_rule};
 ghost use Rattle.lg_command_line.specs.Meaning.Commands.{number_rule, required_rule, text_rule};
-ghost use Rattle.lg_command_line.specs.Support.Options.{rule_of_row};
+ghost use Rattle.lg_command_line.specs.Support.Options.{named_rule, rule_of_row, valued_rule};
 
 use clap::builder::ValueParser;
 use clap::{Arg, ArgAction};
@@ -56,17 +56,32 @@ pub(crate) fn option_of<'a>(alloc: Global, row: &OptionRow<'a>) -> Arg<'a>
     }
 }
 
+// The options below are made of one another, so that the checker takes few of them apart.
+
+/// The option `--ID`, with its help.
+fn named_option<'a>(alloc: Global, id: &'a str, help: &'a str) -> Arg<'a>
+    ensures rule { rule_of result ≡ named_rule id.entry.now }
+    ensures local { result.global ≡ false }
+{
+    Arg::new(alloc, id).long(id).help(help)
+}
+
+/// The option `--ID TEXT`, with its help.
+fn valued_option<'a>(alloc: Global, id: &'a str, text: &'a str, help: &'a str) -> Arg<'a>
+    ensures rule { rule_of result ≡ valued_rule id.entry.now }
+    ensures local { result.global ≡ false }
+{
+    named_option(alloc, id, help)
+        .value_name(text)
+        .action(ArgAction::Set)
+}
+
 /// The option `--ID TEXT`, which is required, with its help.
 fn text_option<'a>(alloc: Global, id: &'a str, text: &'a str, help: &'a str) -> Arg<'a>
     ensures rule { rule_of result ≡ text_rule id.entry.now }
     ensures local { result.global ≡ false }
 {
-    Arg::new(alloc, id)
-        .long(id)
-        .value_name(text)
-        .help(help)
-        .required(true)
-        .action(ArgAction::Set)
+    valued_option(alloc, id, text, help).required(true)
 }
 
 /// The option `--ID TEXT`, which has a default, with its help.
@@ -80,12 +95,7 @@ fn default_text_option<'a>(
     ensures rule { rule_of result ≡ default_text_rule id.entry.now default.entry.now }
     ensures local { result.global ≡ false }
 {
-    Arg::new(alloc, id)
-        .long(id)
-        .value_name(text)
-        .help(help)
-        .default_value(default)
-        .action(ArgAction::Set)
+    valued_option(alloc, id, text, help).default_value(default)
 }
 
 /// The option `--ID N`, a number that is at least `least` and at most `most`, with its help.
@@ -93,12 +103,7 @@ fn number_option<'a>(alloc: Global, id: &'a str, least: u64, most: u64, help: &'
     ensures rule { rule_of result ≡ number_rule id.entry.now least most }
     ensures local { result.global ≡ false }
 {
-    Arg::new(alloc, id)
-        .long(id)
-        .value_name("N")
-        .help(help)
-        .value_parser(ValueParser::unsigned(least, most))
-        .action(ArgAction::Set)
+    valued_option(alloc, id, "N", help).value_parser(ValueParser::unsigned(least, most))
 }
 
 /// The option `--ID N` of a number of the configuration, with its default and its help. The range is that of the key.
@@ -116,8 +121,5 @@ fn flag_option<'a>(alloc: Global, id: &'a str, help: &'a str) -> Arg<'a>
     ensures rule { rule_of result ≡ flag_rule id.entry.now }
     ensures local { result.global ≡ false }
 {
-    Arg::new(alloc, id)
-        .long(id)
-        .help(help)
-        .action(ArgAction::SetTrue)
+    named_option(alloc, id, help).action(ArgAction::SetTrue)
 }

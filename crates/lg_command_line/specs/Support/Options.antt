@@ -1,8 +1,9 @@
 -- The options and the commands, as the tables of the code have them.
-use Rattle.std.specs.Prelude.{List}
+use Rattle.std.specs.Prelude.{List, Some, codes, true}
 use Rattle.std.specs.List.{fold}
-use Rattle.clap.specs.Simple.{App, new_app, with_rule, with_subcommand}
+use Rattle.clap.specs.Simple.{App, new_app, new_rule, on_top, with_rule, with_subcommand}
 use Rattle.clap.specs.Walk.{Rule, Text}
+use Rattle.clap.specs.declared.builder.action.ArgAction.TheVariants.{Set}
 use Rattle.lg_timing.specs.Meaning.Keys.{row_of}
 use Rattle.lg_command_line.specs.Meaning.Commands.{default_rule, default_text_rule, flag_rule, number_rule}
 use Rattle.lg_command_line.specs.Meaning.Commands.{required_rule, text_rule}
@@ -11,6 +12,14 @@ use Rattle.lg_command_line.specs.declared.options.OptionRow.{OptionRow}
 use Rattle.lg_command_line.specs.declared.options.Takes.{Takes}
 use Rattle.lg_command_line.specs.declared.options.Takes.TheVariants.{DefaultText, Nothing, Number, OfKey}
 use Rattle.lg_command_line.specs.declared.options.Takes.TheVariants.{RequiredNumber, RequiredText}
+
+-- an option `--ID`
+abbrev pub named_rule : Text → Rule
+named_rule id = record (new_rule id) { long = Some id }
+
+-- an option `--ID TEXT`
+abbrev pub valued_rule : Text → Rule
+valued_rule id = record (named_rule id) { value_names = 1; action = Some Set }
 
 -- an option of this name, which takes this
 abbrev pub rule_taking : Text → Takes → Rule
@@ -40,3 +49,7 @@ with_row lg row = with_subcommand lg (app_of_row row).top
 -- a program with the commands of these rows behind those that it has
 unfoldable pub with_rows : App → List CommandRow → App
 with_rows lg rows = fold with_row lg rows
+
+-- the program before it has commands
+abbrev pub bare_lg : App
+bare_lg = on_top (λ s. record s { has_version = true; subcommand_required = true }) (new_app (codes "lg"))
