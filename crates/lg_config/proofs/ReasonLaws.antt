@@ -16,3 +16,11 @@ pub line_said : (r : Result (String Global) AllocError) (text : List ℕ) (place
 line_said (Ok s) text place line message within same is =
     record { place = place; message = message; within = within; is = is ∙ ap (λ n. line_reason n message) same }
 line_said (Err e) text place line message within same is = tt
+
+-- and it is the line at this place
+pub line_named : (r : Result (String Global) AllocError) (text : List ℕ) (place start line : ℕ) (message : List ℕ)
+    → place ≡ start → line ≡ line_at place text → IfOk r (λ s. string_bytes s ≡ line_reason line message)
+    → IfOk r (λ s. (m : List ℕ) × (string_bytes s ≡ line_reason (line_at start text) m))
+line_named (Ok s) text place start line message there same is =
+    (message, is ∙ ap (λ n. line_reason n message) (same ∙ ap (λ p. line_at p text) there))
+line_named (Err e) text place start line message there same is = tt

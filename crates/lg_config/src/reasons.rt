@@ -2,8 +2,8 @@
 //!
 //! Defined in: `specs/Meaning/Reasons.antt`.
 //! Tested in: `cases/config_reasons.case`, `lg_command_tests/src/config.rt`.
-ghost use Rattle.std.specs.Prelude.{◌≡◌, ◌≤◌, ℕ, IfOk, length, string_bytes};
-ghost use Rattle.toml.specs.Errors.{IsWithin, span_start};
+ghost use Rattle.std.specs.Prelude.{◌≡◌, ◌≤◌, ℕ, List, IfOk, length, string_bytes};
+ghost use Rattle.toml.specs.Errors.{IsMemory, IsWithin, span_start};
 ghost use Rattle.toml.specs.View.{table_view};
 ghost use Rattle.lg_config.specs.Meaning.Reasons.{config_reason, key_of_fault, line_at, line_reason, reason_of};
 ghost use Rattle.lg_config.specs.Meaning.Reasons.{unnumbered_reason, IsReason, IsTomlReason};
@@ -95,9 +95,10 @@ fn line_reason(alloc: Global, line: u64, message: &str) -> Result<String, AllocE
     format!(in alloc; "line {line} is no TOML: {message}\n")
 }
 
-/// The place at which an error begins.
+/// The place at which an error begins. An error of memory has none.
 fn place_of(error: &Error) -> usize
-    ensures { (length : ℕ) → span_start error.now ≤ length → result ≤ length }
+    ensures within { (length : ℕ) → span_start error.now ≤ length → result ≤ length }
+    ensures starts { ¬ (IsMemory error.now) → result ≡ span_start error.now }
 {
     match error.span() {
         Some(span) => span.start,
@@ -108,7 +109,10 @@ fn place_of(error: &Error) -> usize
 /// The reason of a text that is no TOML.
 fn toml_reason(alloc: Global, bytes: &[u8], error: &Error) -> Result<String, AllocError>
     requires { IsWithin bytes.now error.now }
-    ensures { IfOk result (λ text. IsTomlReason bytes.now (string_bytes text)) }
+    ensures reason { IfOk result (λ text. IsTomlReason bytes.now (string_bytes text)) }
+    // The line is that in which the error begins.
+    ensures line { ¬ (IsMemory error.now) → IfOk result (λ text. (message : List ℕ)
+        × (string_bytes text ≡ line_reason (line_at (span_start error.now) bytes.now) message)) }
 {
     line_reason(alloc, line_at(place_of(error), bytes), error.message())
 }
