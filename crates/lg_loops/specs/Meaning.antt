@@ -6,8 +6,10 @@ pub mod Words
 pub mod Turns
 pub mod Leaving
 pub mod Pulling
+pub mod Pausing
 pub mod BothLoops
 pub mod Asking
 pub mod Examples
 pub mod PullingExamples
+pub mod PausingExamples
 pub mod LeavingExamples

@@ -1,8 +1,9 @@
 //! When the ticking loop asks seeds and members for their tables.
 //!
-//! Defined in: `specs/Meaning/Pulling.antt`, `specs/Support/Acted.antt`.
+//! Defined in: `specs/Meaning/Pulling.antt`, `specs/Meaning/Pausing.antt`, `specs/Support/Acted.antt`.
 //! Tested in: `lg_node_tests/src/node/finding.rt`, `cases/groups`.
-ghost use Rattle.std.specs.Prelude.{◌≡◌, ◌≤◌, ◌<◌, ◌+◌, ◌%◌, [], true, length, if◌then◌else◌, MatchOption};
+ghost use Rattle.std.specs.Prelude.{◌≡◌, ◌≤◌, ◌<◌, ◌+◌, ◌%◌, [], true, length, min, if◌then◌else◌, MatchOption};
+ghost use Rattle.lg_loops.specs.Meaning.Pausing.{time_until, look_left, asking_left, least_time};
 ghost use Rattle.lg_loops.specs.Support.Acted.{IsAgenda, IsDuty, IsNoLook, IsNoAsking, IsSeedNext, IsMemberNext};
 ghost use Rattle.lg_loops.specs.Support.Acted.{IsNextAgenda, agenda_at};
 
@@ -12,6 +13,9 @@ use lg_timing::{MAX_SEEDS, Moment};
 
 /// How long it is from one look whether the seeds are to be asked to the next, in milliseconds.
 pub const LOOK_MS: u64 = 1000;
+
+/// The longest time that a number can say, in milliseconds: so long it is until what never comes.
+pub(crate) const LONGEST: u64 = u64::MAX;
 
 /// What the ticking loop has done besides its ticks.
 #[derive(Clone, Copy, Debug)]
@@ -44,17 +48,19 @@ pub(crate) enum Duty {
     SeedInTurn(Addr),
     /// A member is to be chosen and asked.
     Member,
-    /// Nothing, for this many milliseconds.
+    /// Nothing, until so many milliseconds have passed: then there is to be a look, or a table is asked for in turn.
     Rest(u64),
 }
 
-/// How long it is until an interval is over that began at a moment.
+/// How long it is from now until an interval has passed since a moment, and 0 if it has. What no number can say counts
+/// as the longest time.
 fn remaining(from: u64, interval: u64, now: Moment) -> u64
-    ensures over { result ≡ 0 → from + interval ≤ now }
-    ensures lasts { 0 < result → now < from + interval }
+    ensures { result ≡ min LONGEST (time_until (from + interval) now) }
 {
-    from.saturating_add(interval)
-        .saturating_sub(now.milliseconds())
+    let moment = now.milliseconds();
+    let passed = moment.saturating_sub(from);
+    let ahead = from.saturating_sub(moment);
+    ahead.saturating_add(interval.saturating_sub(passed))
 }
 
 /// The number behind a number, in turn: 0 comes behind the last of so many.
@@ -91,24 +97,26 @@ impl Agenda {
         }
     }
 
-    /// How long it is until the next look. If there are no seeds, there is none, and it is very long.
+    /// How long it is until the next look. If there are no seeds, there is none, and it is the longest time.
     fn until_look(&self, plan: &Plan, now: Moment) -> u64
+        ensures left { result ≡ least_time LONGEST (look_left plan.now (self.now.looked + LOOK_MS) now) }
         ensures due { result ≡ 0 → (0 < length plan.now.seeds.items) × (self.now.looked + LOOK_MS ≤ now) }
         ensures later { 0 < result → IsNoLook plan.now self.now now }
     {
         if plan.seeds.len() == 0 {
-            return u64::MAX;
+            return LONGEST;
         }
         remaining(self.looked, LOOK_MS, now)
     }
 
-    /// How long it is until a table is asked for in turn. If none ever is, it is very long.
+    /// How long it is until a table is asked for in turn. If none ever is, it is the longest time.
     fn until_asking(&self, plan: &Plan, now: Moment) -> u64
+        ensures left { result ≡ least_time LONGEST (asking_left plan.now (self.now.latest + self.now.distance) now) }
         ensures due { result ≡ 0 → (0 < plan.now.pull_ms) × (self.now.latest + self.now.distance ≤ now) }
         ensures later { 0 < result → IsNoAsking plan.now self.now now }
     {
         if plan.pull_ms == 0 {
-            return u64::MAX;
+            return LONGEST;
         }
         remaining(self.latest, self.distance, now)
     }

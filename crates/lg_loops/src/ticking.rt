@@ -1,14 +1,17 @@
 //! The ticking loop.
 //!
-//! Defined in: `specs/Meaning/Turns.antt`, `specs/Meaning/Pulling.antt`, `specs/Support/Acted.antt`.
+//! Defined in: `specs/Meaning/Turns.antt`, `specs/Meaning/Pulling.antt`, `specs/Meaning/Pausing.antt`,
+//! `specs/Support/Acted.antt`.
 //! Tested in: `lg_node_tests/src/node/ticking.rt`, `cases/groups`.
-ghost use Rattle.std.specs.Prelude.{◌≡◌, ◌≤◌, ◌<◌, true, false, is_none, if◌then◌else◌, IfSome, MatchOption};
+ghost use Rattle.std.specs.Prelude.{◌≡◌, ◌≤◌, ◌<◌, ℕ, List, true, false, is_none, if◌then◌else◌, IfSome, MatchOption};
 ghost use Rattle.lg_agent.specs.Meaning.Values.{PassValue};
 ghost use Rattle.lg_loops.specs.declared.plan.Plan.{Plan as Planned};
 ghost use Rattle.lg_loops.specs.Meaning.Leaving.{lingering};
+ghost use Rattle.lg_loops.specs.declared.agenda.Duty.TheVariants as duty;
+ghost use Rattle.lg_loops.specs.Meaning.Pausing.{longest_pause};
 ghost use Rattle.lg_loops.specs.Meaning.Pulling.{Ticking};
-ghost use Rattle.lg_loops.specs.Meaning.Turns.{line, words_in, SeesDue, Threw};
-ghost use Rattle.lg_loops.specs.Support.Acted.{Acted};
+ghost use Rattle.lg_loops.specs.Meaning.Turns.{line, words_in, SeesDue, Threw, Turn};
+ghost use Rattle.lg_loops.specs.Support.Acted.{Acted, IsAgenda, IsDuty};
 
 use crate::agenda::{Agenda, Duty};
 use crate::calling;
@@ -53,6 +56,18 @@ fn tick<A: AgentName, R: Wait, L: Link, C, D: Dice>(
     }
 }
 
+/// How long a turn pauses at a moment that has nothing to do for so long, besides a tick at the next deadline.
+fn pause_for(deadline: u64, now: Moment, limit: u64, wait_ms: u64) -> u64
+    ensures { (plan : Planned) → (since : ℕ) → (before : List Turn) → (agenda : Agenda)
+        → IsAgenda plan since before agenda → IsDuty plan agenda now (duty.Rest limit)
+        → result ≡ longest_pause wait_ms deadline plan since before now }
+{
+    deadline
+        .saturating_sub(now.milliseconds())
+        .min(limit)
+        .min(wait_ms)
+}
+
 /// One turn at a moment: ticks if the next deadline has come. Otherwise it does what the agenda says, or pauses. A
 /// reply is written over `reply`.
 fn tick_turn<A: AgentName, R: Wait, L: Link, C: Clock, D: Dice>(
@@ -87,7 +102,7 @@ fn tick_turn<A: AgentName, R: Wait, L: Link, C: Clock, D: Dice>(
         }
         Duty::Member => ask_member(shared, ticker, plan, agenda, now, reply),
         Duty::Rest(limit) => {
-            let pause = (deadline - moment).min(limit).min(shared.wait_ms);
+            let pause = pause_for(deadline, now, limit, shared.wait_ms);
             shared.clock.pause(pause);
             Turned::on()
         }

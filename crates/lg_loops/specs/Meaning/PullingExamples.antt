@@ -10,7 +10,7 @@ use Rattle.lg_loops.specs.Meaning.Turns.Turn.{Paused, Looked, Unlooked, AskedSee
 use Rattle.lg_loops.specs.Meaning.Pulling.{others_of, is_alone, next_look, askings_after, next_asking, waiting_after}
 use Rattle.lg_loops.specs.Meaning.Pulling.{is_seeds_turn, seed_turns, IsChosen, IsSeedInTurn, AreTimely}
 
-abbrev plan : Plan
+abbrev pub plan : Plan
 plan = record {
   name = b ∷ [];
   seeds = record { items = record { name = c ∷ []; addr = at 7000 } ∷ record { name = d ∷ []; addr = at 7001 } ∷ [] };

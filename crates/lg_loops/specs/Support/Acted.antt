@@ -1,5 +1,5 @@
 -- What a turn of the ticking loop does, as the code reports it.
-use Rattle.std.specs.Prelude.{◌≡◌, ◌⊎◌, ◌+◌, ◌*◌, ◌%◌, ◌<◌, ◌≤◌, ℕ, min, not, if◌then◌else◌}
+use Rattle.std.specs.Prelude.{◌≡◌, ◌⊎◌, ◌+◌, ◌-◌, ◌*◌, ◌%◌, ◌^◌, ◌<◌, ◌≤◌, ℕ, min, not, if◌then◌else◌}
 use Rattle.std.specs.Prelude.{Bool, true, false, List, [], ◌∷◌, ◌++◌, length, drop}
 use Rattle.std.specs.List.{flat_map}
 use Rattle.lg_rules.specs.declared.addr.Addr.{Addr}
@@ -13,6 +13,7 @@ use Rattle.lg_loops.specs.Meaning.Turns.{Turn, LinkValue, is_of_ticking}
 use Rattle.lg_loops.specs.Meaning.Leaving.{next_plan}
 use Rattle.lg_loops.specs.Meaning.Pulling.{addrs, look_ms, looks_in, last_moment, waiting_after, IsTimely}
 use Rattle.lg_loops.specs.Meaning.Pulling.{askings_after, asking_distance, is_seeds_turn, seed_turns}
+use Rattle.lg_loops.specs.Meaning.Pausing.{look_left, asking_left, least_time}
 use Rattle.lg_loops.specs.Support.Took.{Took}
 
 -- the seeds that wait by an agenda
@@ -79,6 +80,15 @@ pub record IsSeedNext (plan : Plan) (a : Agenda) (peer : Addr) : Type 0 where
 abbrev pub IsMemberNext : Plan → Agenda → Type 0
 IsMemberNext plan a = (length plan.seeds.items ≡ 0) ⊎ (a.is_seeds_turn ≡ false)
 
+-- the longest time that a number can say
+abbrev pub longest_time : ℕ
+longest_time = 2 ^ 64 - 1
+
+-- How long there is nothing to do by an agenda: until the next look, or until a table is asked for in turn.
+abbrev pub rest_by : Plan → Agenda → ℕ → ℕ
+rest_by plan a now =
+    least_time longest_time (look_left plan (a.looked + look_ms) now ++ asking_left plan (a.latest + a.distance) now)
+
 -- what is to be done by an agenda
 abbrev pub IsDuty : Plan → Agenda → ℕ → Duty → Type 0
 IsDuty plan a now (Seed peer) =
@@ -87,7 +97,8 @@ IsDuty plan a now Look =
     (waiting_by plan a ≡ []) × (0 < length plan.seeds.items) × (a.looked + look_ms ≤ now)
 IsDuty plan a now (SeedInTurn peer) = IsAskingDue plan a now × IsSeedNext plan a peer
 IsDuty plan a now Member = IsAskingDue plan a now × IsMemberNext plan a
-IsDuty plan a now (Rest limit) = (waiting_by plan a ≡ []) × IsNoLook plan a now × IsNoAsking plan a now
+IsDuty plan a now (Rest limit) =
+    (waiting_by plan a ≡ []) × IsNoLook plan a now × IsNoAsking plan a now × (limit ≡ rest_by plan a now)
 
 -- There is a turn of the ticking loop, timely by the plan and the agenda. The new plan and the new agenda are those
 -- after one more turn.

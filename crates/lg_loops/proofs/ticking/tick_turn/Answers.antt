@@ -85,7 +85,7 @@ returns-in-Rest g c = λ low.
           few_unsent = omega (arith, on.unsent);
         };
         plans = refl;
-        timely = λ since before was. (low, idle_time c.args.plan.now since before c.args.agenda.now c.args.now was c.in-Rest.ensures);
+        timely = λ since before was. (low, idle_time c.args.plan.now since before c.args.agenda.now c.args.now was (c.in-Rest.ensures.0, c.in-Rest.ensures.1, c.in-Rest.ensures.2));
         noted = λ since before was. agenda_same c.args.plan.now since before t c.args.agenda.now was refl refl refl;
       },
       refl,
