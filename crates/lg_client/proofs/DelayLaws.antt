@@ -1,5 +1,5 @@
 -- After how many seconds an answer says to ask again, by what is read of its head.
-use Rattle.std.proofs.Common.{◌≡◌, ◌≢◌, ℕ, false, List, [], map, take, drop, Option, Some, None, Err, inl, inr, sym, ap, subst, ◌∙◌, append-nil}
+use Rattle.std.proofs.Common.{◌≡◌, ◌≢◌, ℕ, false, List, [], ◌∷◌, map, take, drop, Option, Some, None, Err, inl, inr, refl, sym, ap, subst, ◌∙◌, append-nil}
 use Rattle.httparse.specs.declared.spans.HeaderSpan.{HeaderSpan}
 use Rattle.httparse.specs.declared.spans.ResponseSpans.{ResponseSpans}
 use Rattle.httparse.specs.Grammar.{HasNoResponse, ResponseHead, status_code}
@@ -8,7 +8,7 @@ use Rattle.httparse.proofs.GrammarLemmas.{response_unique}
 use Rattle.lg_client.specs.Meaning.Answers.{IsHttpAnswer, most_fields}
 use Rattle.lg_client.specs.Meaning.Questions.{is_code_of}
 use Rattle.lg_client.specs.Meaning.Waiting.{IsTurnedDown, SaysLater, delay_said, unavailable}
-use Rattle.lg_client.specs.Support.Receiving.{HeadSays, IsEndOf, IsHeard, IsReceived, IsTurnedDownBy}
+use Rattle.lg_client.specs.Support.Receiving.{HeadSays, IsEndBehind, end_behind, IsHeard, IsReceived, IsTurnedDownBy}
 use Rattle.lg_client.specs.declared.unheard.Delay.TheVariants.{Closed, Told}
 use Rattle.lg_client.specs.declared.unheard.Unheard.{Unheard}
 use Rattle.lg_client.specs.declared.unheard.Unheard.TheVariants.{Lacking, Later, NoMemory, Wrong}
@@ -69,13 +69,18 @@ heard_from allowed Lacking received = received
 heard_from allowed Wrong received = inl received
 heard_from allowed NoMemory received = tt
 
+-- the end of a connection
+pub ends_behind : (bytes : List ℕ) → IsEndBehind bytes (end_behind bytes)
+ends_behind [] = refl
+ends_behind (byte ∷ bytes) = tt
+
 -- no more bytes came
-pub received_end : (why : Unheard) → IsEndOf why → IsReceived (Err why)
-received_end (Later (Told seconds)) end = absurd end
-received_end (Later Closed) end = tt
-received_end Lacking end = ([], nothing_cut)
-received_end Wrong end = absurd end
-received_end NoMemory end = tt
+pub received_end : (bytes : List ℕ) (why : Unheard) → IsEndBehind bytes why → IsReceived (Err why)
+received_end bytes (Later (Told seconds)) end = absurd end
+received_end bytes (Later Closed) end = tt
+received_end bytes Lacking end = ([], nothing_cut)
+received_end bytes Wrong end = absurd end
+received_end bytes NoMemory end = tt
 
 -- an answer that isn't allowed
 pub heard_turned_down : (allowed : List ℕ) (why : Unheard) → IsTurnedDownBy allowed why → IsHeard allowed (Err why)

@@ -2,8 +2,9 @@
 //!
 //! Defined in: `specs/Meaning/Answers.antt`.
 //! Tested in: `lg_client_tests/src/asking.rt`, `lg_client_tests/src/damaged.rt`.
-ghost use Rattle.std.specs.Prelude.{◌≡◌, ◌≤◌, Err, IfErr, drop, length};
-ghost use Rattle.lg_client.specs.Support.Receiving.{IsEndOf, IsReceived};
+ghost use Rattle.std.specs.Prelude.{◌≡◌, ◌≤◌, Err, IfErr, OnErr, OnOk, drop, length};
+ghost use Rattle.std.specs.Io.{StartsWith};
+ghost use Rattle.lg_client.specs.Support.Receiving.{end_behind, IsEndBehind, IsReceived};
 
 use crate::heard::{Heard, hear};
 use crate::unheard::{Delay, Unheard};
@@ -33,7 +34,7 @@ impl Answer {
 
 /// What the end of a connection means behind these bytes: a busy node closes it before the first.
 fn ended(bytes: &[u8]) -> Unheard
-    ensures { IsEndOf result }
+    ensures { result ≡ end_behind bytes.now }
 {
     if bytes.is_empty() {
         Unheard::Later(Delay::Closed)
@@ -51,13 +52,16 @@ fn is_closing(kind: ErrorKind) -> bool {
 }
 
 /// Reads once, and appends what came. An interrupted call gives nothing. The error says that the other side is at its
-/// end, is silent or fails, or that memory was refused.
+/// end, is silent or fails, or that memory was refused. Then the bytes are as they were.
+#[tactic(auto, using(crate::proofs::DelayLaws::ends_behind))]
 fn receive_part<S: Read>(
     stream: &mut S,
     room: &mut [u8],
     bytes: &mut Vec<u8>,
 ) -> Result<(), Unheard>
-    ensures { IfErr result IsEndOf }
+    ensures kept { OnOk result (StartsWith bytes.new.items bytes.old.items) }
+    ensures same { OnErr result (bytes.new.items ≡ bytes.old.items) }
+    ensures ended { IfErr result (IsEndBehind bytes.old.items) }
 {
     match stream.read(room) {
         Ok(0) => Err(ended(bytes)),

@@ -1,5 +1,5 @@
 -- What the steps of receiving give.
-use Rattle.std.specs.Prelude.{◌≡◌, ◌⊎◌, ℕ, ◌+◌, ◌≤◌, nat_lt, List, ◌++◌, length, drop, map, ⊤, if◌then◌else◌}
+use Rattle.std.specs.Prelude.{◌≡◌, ◌⊎◌, ℕ, ◌+◌, ◌≤◌, nat_lt, List, [], ◌∷◌, ◌++◌, length, drop, map, ⊤, if◌then◌else◌}
 use Rattle.std.specs.Prelude.{false, Option, Result, Ok, Err}
 use Rattle.httparse.specs.Spans.{name_and_value}
 use Rattle.lg_client.specs.declared.fault.AskFault.{AskFault}
@@ -43,13 +43,19 @@ IsReceived (Err Lacking) = (bytes : List ℕ) × IsCutShort bytes
 IsReceived (Err Wrong) = (bytes : List ℕ) × IsOther bytes
 IsReceived (Err NoMemory) = ⊤
 
--- why no more bytes come
-abbrev pub IsEndOf : Unheard → Type 0
-IsEndOf (Later (Told seconds)) = ⊥
-IsEndOf (Later Closed) = ⊤
-IsEndOf Lacking = ⊤
-IsEndOf Wrong = ⊥
-IsEndOf NoMemory = ⊤
+-- What the end of a connection means behind some bytes: a busy node closes it before the first, and else the answer
+-- is lacking.
+abbrev pub end_behind : List ℕ → Unheard
+end_behind [] = Later Closed
+end_behind (byte ∷ bytes) = Lacking
+
+-- Why no more bytes come behind these. That a busy node closed the connection it is only if there are none.
+abbrev pub IsEndBehind : List ℕ → Unheard → Type 0
+IsEndBehind bytes (Later (Told seconds)) = ⊥
+IsEndBehind bytes (Later Closed) = bytes ≡ []
+IsEndBehind bytes Lacking = ⊤
+IsEndBehind bytes Wrong = ⊥
+IsEndBehind bytes NoMemory = ⊤
 
 -- What was received, if only some status codes are allowed.
 abbrev pub IsHeard : List ℕ → Result Answer Unheard → Type 0
