@@ -20,7 +20,8 @@ until_it_looks : longest_pause 50 2000 plan 0 (Unfound 100 ∷ Unfound 300 ∷ U
 until_it_looks = refl
 
 -- With no seeds there is no look, and with a `pull_ms` of 0 none is asked in turn.
-not_until_it_looks : longest_pause 5000 9000 (record plan { seeds = record { items = [] }; pull_ms = 0 }) 0 [] 960 ≡ 5000
+not_until_it_looks :
+    longest_pause 5000 9000 (record plan { seeds = record { items = [] }; pull_ms = 0 }) 0 [] 960 ≡ 5000
 not_until_it_looks = refl
 
 -- What has come is not waited for.
