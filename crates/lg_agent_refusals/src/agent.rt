@@ -14,7 +14,7 @@ use std::marker::Brand;
 use std::sync::Wait;
 
 /// A call or a look of a pass. The first number of a call is its moment in milliseconds.
-#[derive(Clone, Copy, Debug)]
+#[derive(Clone, Copy)]
 enum Call {
     /// A Ping of a for b says that c is alive.
     Ping(u64),
@@ -175,7 +175,7 @@ fn closed<A: AgentName, R: Wait>(
 }
 
 /// An agent of b and its calls.
-#[derive(Clone, Copy, Debug)]
+#[derive(Clone, Copy)]
 struct Case {
     /// The limit on its history, and how many others it knows.
     limit: u64,
@@ -305,6 +305,6 @@ fn tells_choices_after_refused_memory(rt: HostRuntime) {
             },
             Err(_) => None,
         };
-        assert!(rt; met == Some(true), "{case:?}");
+        assert!(rt; met == Some(true), "from {from}");
     }
 }

@@ -108,13 +108,14 @@ fn reads_back_after_refused_memory(rt: HostRuntime) {
 /// What was prepared and withdrawn isn't stored, and the next event is.
 #[test]
 fn withdraws_after_refused_memory(rt: HostRuntime) {
-    let [first, second, ..] = events();
+    let all = events();
+    let (first, second) = (&all[0], &all[1]);
     let mut history = History::new(rt.alloc());
-    let mut met = is_added(&mut history, rt.alloc(), 0, &first);
-    met = is_prepared(&mut history, rt.alloc(), 1, &second) && met;
+    let mut met = is_added(&mut history, rt.alloc(), 0, first);
+    met = is_prepared(&mut history, rt.alloc(), 1, second) && met;
     history.withdraw();
     history.complete(rt.alloc(), &reply(1));
     met = met && history.len() == 1;
-    met = is_added(&mut history, rt.alloc(), 1, &second) && met;
+    met = is_added(&mut history, rt.alloc(), 1, second) && met;
     assert!(rt; met);
 }
