@@ -127,8 +127,8 @@ fn config(limit: u64, others: u8) -> Config {
     config
 }
 
-/// Opens an agent of one place at 0, makes the calls, and closes it. The error is that memory for the agent was refused,
-/// or that something went otherwise than it should, such as a second pass.
+/// Opens an agent of one place at 0, makes the calls, and closes it. The error is that memory for the agent was
+/// refused, or that something went otherwise than it should, such as a second pass.
 fn closed<A: AgentName, R: Wait>(
     rt: &R,
     alloc: Global,

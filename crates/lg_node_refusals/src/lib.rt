@@ -1,6 +1,6 @@
-//! The loops of a node, its threads, its watcher and its status server, while memory is refused once. Nothing here refuses
-//! memory: `gate/refusals` runs each test once for each allocation, with that one refused. So these tests are proved, and
-//! others are only tried.
+//! The loops of a node, its threads, its watcher and its status server, while memory is refused once. Nothing here
+//! refuses memory: `gate/refusals` runs each test once for each allocation, with that one refused. So these tests are
+//! proved, and others are only tried.
 #![tactic(auto)]
 
 #[cfg(test)]

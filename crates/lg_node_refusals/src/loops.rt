@@ -141,7 +141,8 @@ pub enum Text {
     Empty,
     /// Its last line alone.
     End,
-    /// The records of b and c, which are known from the start, and its last line; or that of d too before the last line.
+    /// The records of b and c, which are known from the start, and its last line; or that of d too before the last
+    /// line.
     Known,
     Other,
 }

@@ -1,5 +1,5 @@
-//! A loop whose call is refused memory ends with it, and nothing is lost. If memory for the thread of the receiving loop
-//! is refused, no loop makes a turn. A watcher without a thread watches when the loops have ended.
+//! A loop whose call is refused memory ends with it, and nothing is lost. If memory for the thread of the receiving
+//! loop is refused, no loop makes a turn. A watcher without a thread watches when the loops have ended.
 use crate::loops::Alone::{self, Receiving, Ticking};
 use crate::loops::{BothSeen, Text};
 use crate::playing::{Case, Outcome, Play, Shown, told_at_last};

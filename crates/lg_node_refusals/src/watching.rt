@@ -155,8 +155,8 @@ const PUT_OFF: [(&str, usize); 2] = [
     ),
 ];
 
-/// If any one allocation is refused, no line is lost: it is told in the turn after that. Each text is written in one go,
-/// one byte a call, and then flushed.
+/// If any one allocation is refused, no line is lost: it is told in the turn after that. Each text is written in one
+/// go, one byte a call, and then flushed.
 #[test]
 fn tells_later_after_refused_memory(rt: HostRuntime) {
     let outcome = match run(&rt, rt.alloc()) {
