@@ -5,8 +5,8 @@ use crate::links::{PausedClock, PingLink, Signs};
 use arrayvec::ArrayVec;
 use lg_agent::{AgentName, Pass, Spent};
 use lg_node::{
-    ChangeSignal, Counters, Ended, Lookers, LoopEnd, PcgDice, Plan, Settings, Shared, Side, Sides,
-    StatusServer, Watched, join_threads, receive_loop, tick_loop,
+    Both, ChangeSignal, Counters, Ended, Looked, Lookers, LoopEnd, PcgDice, Plan, Settings, Shared,
+    Side, Sides, StatusServer, Watched, join_threads, receive_loop, tick_loop,
 };
 use lg_rules::Name;
 use lg_testing::{Room, at, letter, local};
@@ -183,6 +183,44 @@ pub struct BothSeen {
     pub text: Text,
 }
 
+/// The settings of a node that nobody asks.
+fn settings_of(follow: bool) -> Settings {
+    Settings {
+        dice: 1,
+        pull_ms: 0,
+        stall_ms: 0,
+        follow,
+        status: None,
+        status_open: false,
+        keys: None,
+    }
+}
+
+/// What is seen of the threads of a node, and what its passes leave.
+fn seen_of<A: AgentName, L>(
+    looked: Looked<'_, A>,
+    both: Both<L, A>,
+    writer: &Room,
+) -> (BothSeen, [Spent<A>; 4])
+where
+    L: Drop,
+{
+    let (received, ticked) = both;
+    let seen = BothSeen {
+        receiving: received.end,
+        ticking: ticked.end,
+        watched: looked.watched,
+        text: Text::of(writer),
+    };
+    let left = [
+        looked.watcher.finish(),
+        looked.status.finish(),
+        received.spent,
+        ticked.spent,
+    ];
+    (seen, left)
+}
+
 /// Runs the threads of a node that nobody asks, with four passes, until its link tells it to stop. There may be a
 /// watcher. Nothing comes of fewer passes.
 pub fn run_both<A, R>(
@@ -200,15 +238,7 @@ where
     let (ticker, receiver) = (passes.pop()?, passes.pop()?);
     let name = letter(b'b');
     let config = Config::new(name, local(7102));
-    let settings = Settings {
-        dice: 1,
-        pull_ms: 0,
-        stall_ms: 0,
-        follow,
-        status: None,
-        status_open: false,
-        keys: None,
-    };
+    let settings = settings_of(follow);
     let signs = Signs::new(true);
     let clock = PausedClock::new(rt, false);
     let noted = Noted::new(name);
@@ -229,18 +259,5 @@ where
     };
     let (mut writer, mut faults) = (Room::failing(0), Room::failing(0));
     let (looked, (both, _)) = join_threads(&shared, sides, lookers, &mut writer, &mut faults);
-    let (received, ticked) = both;
-    let seen = BothSeen {
-        receiving: received.end,
-        ticking: ticked.end,
-        watched: looked.watched,
-        text: Text::of(&writer),
-    };
-    let left = [
-        looked.watcher.finish(),
-        looked.status.finish(),
-        received.spent,
-        ticked.spent,
-    ];
-    Some((seen, left))
+    Some(seen_of(looked, both, &writer))
 }

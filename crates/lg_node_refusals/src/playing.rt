@@ -95,6 +95,17 @@ fn config_of(case: &Case) -> Config {
     config
 }
 
+/// Abandons an agent that wasn't closed.
+fn abandon<A: AgentName, R: Wait>(rt: &R, unclosed: Unclosed<A>) -> Refusal {
+    let Unclosed {
+        fault: _,
+        agent,
+        spents: _,
+    } = unclosed;
+    agent.abandon(rt);
+    Refusal::NoPlace
+}
+
 /// Opens an agent, plays it, and closes it. If memory for its passes is refused, it is played once more. The error is
 /// that memory for the agent was refused, or that something went otherwise than it should.
 fn play_case<A, R>(
@@ -130,15 +141,7 @@ where
             base: closed.base(),
         }),
         (Ok(_), None) => Err(Refusal::NoPlace),
-        (Err(unclosed), _) => {
-            let Unclosed {
-                fault: _,
-                agent,
-                spents: _,
-            } = unclosed;
-            agent.abandon(rt);
-            Err(Refusal::NoPlace)
-        }
+        (Err(unclosed), _) => Err(abandon(rt, unclosed)),
     }
 }
 
