@@ -127,6 +127,17 @@ fn config(limit: u64, others: u8) -> Config {
     config
 }
 
+/// Abandons an agent that wasn't closed.
+fn abandon<A: AgentName, R: Wait>(rt: &R, unclosed: Unclosed<A>) -> Refusal {
+    let Unclosed {
+        fault: _,
+        agent,
+        spents: _,
+    } = unclosed;
+    agent.abandon(rt);
+    Refusal::NoPlace
+}
+
 /// Opens an agent of one place at 0, makes the calls, and closes it. The error is that memory for the agent was
 /// refused, or that something went otherwise than it should, such as a second pass.
 fn closed<A: AgentName, R: Wait>(
@@ -162,15 +173,7 @@ fn closed<A: AgentName, R: Wait>(
     match agent.close(rt, spents) {
         Ok(closed) if !has_more => Ok(closed),
         Ok(_) => Err(Refusal::NoPlace),
-        Err(unclosed) => {
-            let Unclosed {
-                fault: _,
-                agent,
-                spents: _,
-            } = unclosed;
-            agent.abandon(rt);
-            Err(Refusal::NoPlace)
-        }
+        Err(unclosed) => Err(abandon(rt, unclosed)),
     }
 }
 
