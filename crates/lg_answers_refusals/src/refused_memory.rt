@@ -1,5 +1,5 @@
-//! Answers that are refused memory once. What each says is shown by `lg_answers_tests`; here three answers to one request
-//! are compared, of which one may be refused.
+//! Answers that are refused memory once. What each says is shown by `lg_answers_tests`; here three answers to one
+//! request are compared, of which one may be refused.
 use lg_answers::{Changes, Drops, MAX_CHANGES, NodeNumber, ShownConfig, Snapshot, answer_to};
 use lg_counters::Counters;
 use lg_http::HttpAnswer;

@@ -23,8 +23,8 @@ use std::sync::atomic::AtomicU64;
 use std::sync::atomic::Ordering::SeqCst;
 
 /// What is done with a site and an agent, in order.
-#[derive(Clone, Copy, Debug)]
-enum Step {
+#[derive(Clone, Copy)]
+enum Step<'a> {
     /// b hears in a Ping of a, at this moment, that the member named by a letter is alive.
     Alive(u64, u8),
     /// The same that it is suspected by a.
@@ -36,9 +36,9 @@ enum Step {
     /// The site looks at this moment, and the newest change that it shows has this version.
     Shows(u64, u64),
     /// A request for this path and query is answered by this body.
-    Gets(&'static str, Option<&'static str>, &'static str),
+    Gets(&'a str, Option<&'a str>, &'a str),
     /// The body that answers a request for this path has this text in it.
-    Tells(&'static str, &'static str),
+    Tells(&'a str, &'a str),
 }
 
 /// A clock that somebody sets.
@@ -74,7 +74,7 @@ fn happens<A: AgentName, R: Wait>(
     rt: &R,
     alloc: Global,
     pass: &mut Pass<'_, A>,
-    step: Step,
+    step: Step<'_>,
 ) -> Option<bool> {
     match step {
         Alive(now, member) => Some(hears(rt, alloc, pass, now, alive(member, 0))),
@@ -105,7 +105,7 @@ fn answers<S: Site>(
 }
 
 /// Whether the site does what a step says.
-fn shows<S: Site>(alloc: Global, clock: &SetClock, site: &mut S, step: Step) -> bool {
+fn shows<S: Site>(alloc: Global, clock: &SetClock, site: &mut S, step: Step<'_>) -> bool {
     match step {
         Shows(now, version) => {
             clock.now.store(now, SeqCst);
@@ -125,7 +125,7 @@ fn first_unmet<A: AgentName, S: Site, R: Wait>(
     clock: &SetClock,
     pass: &mut Pass<'_, A>,
     site: &mut S,
-    steps: &[Step],
+    steps: &[Step<'_>],
 ) -> Option<usize> {
     for (index, step) in steps.iter().enumerate() {
         let met = match happens(rt, alloc, pass, *step) {
@@ -147,7 +147,7 @@ fn play_with<A: AgentName, R: Wait>(
     alloc: Global,
     passes: Vec<Pass<'_, A>>,
     config: &Config,
-    steps: &[Step],
+    steps: &[Step<'_>],
 ) -> Option<Option<usize>> {
     let mut passes = passes;
     let mut hearer = passes.pop()?;
@@ -177,7 +177,7 @@ fn play_in<A: AgentName, R: Wait>(
     alloc: Global,
     book: UnnamedBook,
     places: usize,
-    steps: &[Step],
+    steps: &[Step<'_>],
 ) -> Option<Option<usize>>
     requires book { book.seen.book ≡ A.book }
     requires places { (places ≡ A.places) × (places ≡ 2) }
@@ -195,7 +195,7 @@ fn play_in<A: AgentName, R: Wait>(
 }
 
 /// Does the steps with an agent of its own.
-fn play<R: Wait>(rt: &R, alloc: Global, steps: &[Step]) -> Option<Option<usize>> {
+fn play<R: Wait>(rt: &R, alloc: Global, steps: &[Step<'_>]) -> Option<Option<usize>> {
     play_in::<Brand, R>(rt, alloc, UnnamedBook::new(), 2, steps)
 }
 
