@@ -1,5 +1,5 @@
 -- What a node is refused for before its loops.
-use Rattle.std.proofs.Common.{◌≡◌, ℕ, List, [], ◌∷◌, Result, Ok, Err, IfErr, IsErrAnd, refl, sym, ◌∙◌, subst, inl, inr}
+use Rattle.std.proofs.Common.{◌≡◌, ℕ, List, [], ◌∷◌, refl, ◌∙◌, inl, inr}
 use mathlib.Core.List.{IsPrefix}
 use Rattle.lg_timing.specs.declared.config.Config.{Config}
 use Rattle.lg_detector.specs.declared.event.Event.{Event}
@@ -19,8 +19,3 @@ refused_early config start seen (HistoryFull limit) begins (inr is) = inr is
 refused_early config start seen (Behind before here) begins is = is.1
 refused_early config start seen NoPlace begins is = tt
 refused_early config start seen NoView begins is = is
-
--- the same of a refusal that is passed on
-pub passed_early : {T : Type 0} (config : Config) (start : ℕ) (seen : List Event) (e : Refusal) (r : Result T Refusal) → IsErrAnd r (λ d. d ≡ e) → IsPrefix (Open start config ∷ []) seen → IsRefusal seen e → IfErr r (IsRefusedEarly config)
-passed_early config start seen e (Ok x) same begins is = tt
-passed_early config start seen e (Err d) same begins is = subst (IsRefusedEarly config) (sym same) (refused_early config start seen e begins is)

@@ -58,17 +58,26 @@ pub(crate) fn begin<'p, 'n, 's, 'c, 'r, A: AgentName, R: Wait, C: Clock>(
         → All (λ seen. seen ≡ Open start setup.now.config.now ∷ []) agent.old.told
         → IfErr result (IsRefusedEarly setup.now.config.now) }
 {
-    let Some(passes) = passes_of(shared.alloc, agent) else {
+    let Some(mut passes) = passes_of(shared.alloc, agent) else {
+        drop(server);
         return Err(Refusal::NoMemory);
+    };
+    let mut sends = link_of(shared.counters, setup);
+    let unsent = match ask_each(shared, &mut passes.asker, &mut sends, &setup.config.seeds) {
+        Ok(unsent) => unsent,
+        Err(refusal) => {
+            drop(server);
+            drop(sends);
+            drop(passes);
+            return Err(refusal);
+        }
     };
     let Passes {
         receiver,
         ticker,
-        mut asker,
+        asker,
         status,
     } = passes;
-    let mut sends = link_of(shared.counters, setup);
-    let unsent = ask_each(shared, &mut asker, &mut sends, &setup.config.seeds)?;
     let sides = Sides::of(
         Side::new(receiver, link_of(shared.counters, setup)),
         Side::new(ticker, sends),
@@ -129,6 +138,7 @@ fn passes_of<'a, A: AgentName>(alloc: Global, agent: &'a mut Agent<A>) -> Option
     let asker = passes.pop();
     let ticker = passes.pop();
     let receiver = passes.pop();
+    drop(passes);
     match (receiver, ticker, asker, status) {
         (Some(receiver), Some(ticker), Some(asker), Some(status)) => Some(Passes {
             receiver,
@@ -136,6 +146,12 @@ fn passes_of<'a, A: AgentName>(alloc: Global, agent: &'a mut Agent<A>) -> Option
             asker,
             status,
         }),
-        _ => None,
+        (receiver, ticker, asker, status) => {
+            drop(receiver);
+            drop(ticker);
+            drop(asker);
+            drop(status);
+            None
+        }
     }
 }

@@ -10,14 +10,15 @@ ghost use Rattle.lg_agent.specs.Meaning.Calls.{IsLook};
 ghost use Rattle.lg_agent.specs.Meaning.Closing.{IsClosed, IsRefusedClosing};
 
 use crate::node::NodeEnd;
-use crate::start::PLACES;
+use crate::start::{Commons, PLACES};
 use crate::threads::{Both, Looked};
-use lg_agent::{Agent, AgentName, Refusal, Spent, Unclosed};
+use lg_agent::{Agent, AgentName, CloseFault, Closed, Refusal, Spent, Unclosed};
 use lg_follow::Watched;
-use lg_loops::LoopEnd;
+use lg_loops::{Ended, LoopEnd};
 use lg_rules::Record;
 use lg_status_server::Served;
 use std::alloc::Global;
+use std::rt;
 use std::sync::Wait;
 
 /// What the passes of a node leave, its ends, and the members.
@@ -60,29 +61,41 @@ pub(crate) fn leave<A: AgentName, L: Drop>(
         served,
     } = looked;
     let (received, ticked) = both;
-    let mut end = ticked.end;
-    end.unsent = end.unsent.saturating_add(unsent);
+    let (receiver, received) = without_link(received);
+    let (ticker, mut ticked) = without_link(ticked);
+    ticked.unsent = ticked.unsent.saturating_add(unsent);
     let members = watcher.members(alloc);
     Left {
-        received: received.end,
-        ticked: end,
+        received,
+        ticked,
         members,
         watched,
         served,
-        receiver: received.spent,
-        ticker: ticked.spent,
+        receiver,
+        ticker,
         reader: watcher.finish(),
         status: status.finish(),
     }
 }
 
-/// Closes the agent of a node, with a list that has enough capacity for what its passes leave.
-pub(crate) fn close<A: AgentName, R: Wait>(
+/// What a loop gave back, without its link.
+fn without_link<A: AgentName, L: Drop>(ended: Ended<L, A>) -> (Spent<A>, LoopEnd)
+    ensures spent { result.0 ≡ ended.spent }
+    ensures end { result.1 ≡ ended.end }
+{
+    let Ended { link, spent, end } = ended;
+    drop(link);
+    (spent, end)
+}
+
+/// Closes the agent of a node, with a list that has enough capacity for what its passes leave. What its threads shared
+/// says how long its clock stood still, and is let go.
+pub(crate) fn close<A: AgentName, R: Wait + rt::Clock>(
     rt: &R,
     agent: Agent<A>,
     left: Left<A>,
-    stood_still: u64,
     room: Vec<Spent<A>>,
+    commons: Commons<'_, R>,
 ) -> NodeEnd
     requires { (room.items ≡ []) × (PLACES ≤ vec_capacity room) }
     ensures received { result.received ≡ left.received }
@@ -105,30 +118,44 @@ pub(crate) fn close<A: AgentName, R: Wait>(
         reader,
         status,
     } = left;
+    let stood_still = commons.stood_still();
+    drop(commons);
     let mut spents = room;
     spents.push_reserved(receiver);
     spents.push_reserved(ticker);
     spents.push_reserved(reader);
     spents.push_reserved(status);
-    let closed = match agent.close(rt, spents) {
-        Ok(closed) => Ok(closed),
-        Err(unclosed) => {
-            let Unclosed {
-                fault,
-                agent,
-                spents: _,
-            } = unclosed;
-            agent.abandon(rt);
-            Err(fault)
-        }
-    };
     NodeEnd {
         received,
         ticked,
         members,
         watched,
         served,
-        closed,
+        closed: close_agent(rt, agent, spents),
         stood_still,
+    }
+}
+
+/// Closes an agent with what its passes left, or gives it up if that is refused.
+fn close_agent<A: AgentName, R: Wait>(
+    rt: &R,
+    agent: Agent<A>,
+    spents: Vec<Spent<A>>,
+) -> Result<Closed, CloseFault>
+    ensures { MatchResult result (λ c. IsClosed A.places c spents.items)
+        (λ f. IsRefusedClosing A.places spents.items f) }
+{
+    match agent.close(rt, spents) {
+        Ok(closed) => Ok(closed),
+        Err(unclosed) => {
+            let Unclosed {
+                fault,
+                agent,
+                spents,
+            } = unclosed;
+            drop(spents);
+            agent.abandon(rt);
+            Err(fault)
+        }
     }
 }

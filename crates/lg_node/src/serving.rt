@@ -85,7 +85,11 @@ pub(crate) fn status_server<'s, 'r, R: rt::Clock>(
     ensures free { IfOk result (λ status. IfSome status (λ status. AreFree (slots_of status.server))) }
     ensures early { (config : Opened) → IfErr result (IsEarly config) }
 {
-    let (Some(server), Some(signal)) = (server, signal) else {
+    let Some(server) = server else {
+        return Ok(None);
+    };
+    let Some(signal) = signal else {
+        drop(server);
         return Ok(None);
     };
     match MachineClock::new(rt) {
@@ -94,7 +98,10 @@ pub(crate) fn status_server<'s, 'r, R: rt::Clock>(
             signal,
             machine,
         })),
-        Err(_) => Err(NodeFault::Clock),
+        Err(_) => {
+            drop(server);
+            Err(NodeFault::Clock)
+        }
     }
 }
 
@@ -172,6 +179,7 @@ pub(crate) fn serve_if<'p, 'f, A: AgentName, R: rt::Clock, C: Clock, F: FaultStr
     let mut status = status;
     let (pass, served) = serve_with(shared, config, settings, &mut status, pass);
     report_end(served, faults);
+    drop(status);
     (pass, (faults, Some(served)))
 }
 

@@ -64,7 +64,10 @@ impl Sockets {
                 server: Some(server),
                 signal: Some(signal),
             }),
-            Err(kind) => Err(NodeFault::Status(kind)),
+            Err(kind) => {
+                drop(socket);
+                Err(NodeFault::Status(kind))
+            }
         }
     }
 }

@@ -1,11 +1,14 @@
 //! The start of a node, from its clock to its loops, and its end. Its sockets are bound by then.
 //!
-//! [`open_and_serve`] reads the clock, opens the agent and closes it. Between these the passes are handed out and the
-//! seeds are asked ([`begin`]), all threads run ([`join_threads`]), and the members are read ([`leave`]).
+//! [`open_and_serve`] opens the agent ([`open_node`]) and closes it ([`close`]). Between these the passes are handed out and
+//! the seeds are asked ([`begin`]), all threads run ([`join_threads`]), and the members are read ([`leave`]). What is
+//! let go at the end of a block is proved field by field, each time anew, and what a call takes isn't. So large values
+//! are handed to a call here, to `drop` if there is no other.
 //!
 //! Defined in: `specs/Meaning/Starts.antt`, `specs/Meaning/Nodes.antt`, `lg_loops/specs/Meaning/NodeLinks.antt`.
 //! Tested in: `lg_node_tests/src/node/asking.rt`, `cases/nodes`.
-ghost use Rattle.std.specs.Prelude.{◌≡◌, ◌≤◌, ◌⊎◌, ◌∷◌, [], false, length, All, IfErr, IfOk, IfSome, OnErr, is_some};
+ghost use Rattle.std.specs.Prelude.{◌≡◌, ◌≤◌, ◌⊎◌, ◌∷◌, [], ℕ, false, length, All, is_some};
+ghost use Rattle.std.specs.Prelude.{IfErr, IfOk, IfSome, OnErr};
 ghost use Rattle.std.specs.Vec.{vec_capacity};
 ghost use Rattle.lg_timing.specs.Meaning.Config.{IsChecked};
 ghost use Rattle.lg_detector.specs.declared.event.Event.TheVariants.{Open};
@@ -24,6 +27,7 @@ use lg_clock::{Clock, SteadyClock};
 use lg_counters::Counters;
 use lg_http::Signal;
 use lg_loops::{ChangeSignal, MAX_TURNS, Shared};
+use lg_rules::Name;
 use lg_text::FaultStream;
 use lg_timing::{Config, Moment};
 use lg_view::UnnamedBook;
@@ -83,28 +87,24 @@ where
     ensures told { IfOk result (λ e. TellsServed e.served (F.reported faults.old) (F.reported faults.new)) }
     ensures untold { OnErr result (faults.new ≡ faults.old) }
 {
-    let stall = stall_of(setup.settings);
-    let Ok(clock) = SteadyClock::new(rt, stall) else {
-        return Err(NodeFault::Clock);
-    };
-    let start = clock.now();
-    let (mut agent, room) = match open_agent::<A, R>(rt, setup, book, start) {
+    let (mut agent, room, commons) = match open_node::<A, R>(rt, setup, book) {
         Ok(opened) => opened,
-        Err(refusal) => return Err(NodeFault::Refused(refusal)),
+        Err(fault) => {
+            drop(status);
+            return Err(fault);
+        }
     };
-    let counters = Counters::new(setup.config.name, start);
-    let (over, page_heard) = (AtomicBool::new(false), AtomicBool::new(false));
-    let changes = ChangeSignal::new();
+    let stall = stall_of(setup.settings);
     let shared = Shared {
         rt,
         alloc: setup.alloc,
-        clock: &clock,
+        clock: &commons.clock,
         stop: setup.stop,
-        over: &over,
-        page_heard: &page_heard,
+        over: &commons.over,
+        page_heard: &commons.page_heard,
         group: setup.config.group,
-        counters: &counters,
-        changes: &changes,
+        counters: &commons.counters,
+        changes: &commons.changes,
         signal: setup.signal,
         bound: MAX_TURNS,
         endless: true,
@@ -112,7 +112,7 @@ where
     };
     let ready = match begin(&shared, &mut agent, setup, status) {
         Ok(ready) => ready,
-        Err(refusal) => return Err(give_up(rt, agent, refusal)),
+        Err(refusal) => return Err(give_up(rt, agent, room, commons, refusal)),
     };
     let unsent = ready.unsent;
     let (looked, (both, (writer, faults))) = join_threads(
@@ -125,7 +125,75 @@ where
     take_back(writer);
     take_back(faults);
     let left = leave(setup.alloc, looked, both, unsent);
-    Ok(close(rt, agent, left, clock.stood_still(), room))
+    Ok(close(rt, agent, left, room, commons))
+}
+
+/// What a node owns and its threads share: its clock, what they count, and by what they tell each other.
+#[derive(Drop)]
+pub(crate) struct Commons<'r, R> {
+    clock: SteadyClock<'r, R>,
+    counters: Counters,
+    over: AtomicBool,
+    page_heard: AtomicBool,
+    changes: ChangeSignal,
+}
+
+impl<'r, R: Wait + rt::Clock> Commons<'r, R> {
+    /// What a node begins with whose clock this is, at this moment, and whose member has this name.
+    fn new(clock: SteadyClock<'r, R>, name: Name, start: Moment) -> Commons<'r, R>
+        ensures { result.counters.name ≡ name }
+    {
+        Commons {
+            clock,
+            counters: Counters::new(name, start),
+            over: AtomicBool::new(false),
+            page_heard: AtomicBool::new(false),
+            changes: ChangeSignal::new(),
+        }
+    }
+
+    /// How many milliseconds the clock has left out.
+    pub(crate) fn stood_still(&self) -> u64 {
+        self.clock.stood_still()
+    }
+}
+
+/// What a node works with from its opening on: its agent, a list with enough capacity for what its passes leave, and
+/// what its threads share.
+type Opened<'r, A, R> = (Agent<A>, Vec<Spent<A>>, Commons<'r, R>);
+
+/// Opens a node: reads its clock, and opens its agent with the passes of a node.
+fn open_node<'r, A: AgentName, R: Wait + rt::Clock>(
+    rt: &'r R,
+    setup: &Setup<'_, '_>,
+    book: UnnamedBook,
+) -> Result<Opened<'r, A, R>, NodeFault>
+    requires book { book.seen.book ≡ A.book }
+    requires places { A.places ≡ PLACES }
+    requires config { IsChecked setup.now.config.now }
+    ensures name { IfOk result (λ o. o.0.name ≡ setup.now.config.now.name) }
+    ensures count { IfOk result (λ o. length o.0.told ≡ PLACES) }
+    ensures told { IfOk result (λ o. (start : ℕ)
+        × All (λ seen. seen ≡ Open start setup.now.config.now ∷ []) o.0.told) }
+    ensures room { IfOk result (λ o. (o.1.items ≡ []) × (PLACES ≤ vec_capacity o.1)) }
+    ensures counted { IfOk result (λ o. o.2.counters.name ≡ setup.now.config.now.name) }
+    ensures refused { IfErr result (IsEarly setup.now.config.now) }
+{
+    let clock = match SteadyClock::new(rt, stall_of(setup.settings)) {
+        Ok(clock) => clock,
+        Err(_) => {
+            drop(book);
+            return Err(NodeFault::Clock);
+        }
+    };
+    let start = clock.now();
+    match open_agent::<A, R>(rt, setup, book, start) {
+        Ok((agent, room)) => Ok((agent, room, Commons::new(clock, setup.config.name, start))),
+        Err(refusal) => {
+            drop(clock);
+            Err(NodeFault::Refused(refusal))
+        }
+    }
 }
 
 /// An agent that is opened at a moment with the passes of a node, and a list with enough capacity for what these leave.
@@ -145,17 +213,34 @@ fn open_agent<A: AgentName, R: Wait>(
     ensures room { IfOk result (λ o. (o.1.items ≡ []) × (PLACES ≤ vec_capacity o.1)) }
     ensures refused { IfErr result (λ e. (e ≡ NoMemory) ⊎ (e ≡ NoPlace)) }
 {
-    let Ok(room) = Vec::with_capacity(setup.alloc, PLACES) else {
-        return Err(Refusal::NoMemory);
+    let room = match Vec::with_capacity(setup.alloc, PLACES) {
+        Ok(room) => room,
+        Err(_) => {
+            drop(book);
+            return Err(Refusal::NoMemory);
+        }
     };
-    let agent = Agent::<A>::open(rt, setup.alloc, book, start, setup.config.copy(), PLACES)?;
-    Ok((agent, room))
+    match Agent::<A>::open(rt, setup.alloc, book, start, setup.config.copy(), PLACES) {
+        Ok(agent) => Ok((agent, room)),
+        Err(refusal) => {
+            drop(room);
+            Err(refusal)
+        }
+    }
 }
 
-/// Gives up an agent, since something was refused. Gives the fault of its node.
-fn give_up<A: AgentName, R: Wait>(rt: &R, agent: Agent<A>, refusal: Refusal) -> NodeFault
+/// Gives up a node that was opened, since something was refused. Gives its fault.
+fn give_up<A: AgentName, R: Wait + rt::Clock>(
+    rt: &R,
+    agent: Agent<A>,
+    room: Vec<Spent<A>>,
+    commons: Commons<'_, R>,
+    refusal: Refusal,
+) -> NodeFault
     ensures { result ≡ NodeFault.Refused refusal }
 {
+    drop(room);
+    drop(commons);
     agent.abandon(rt);
     NodeFault::Refused(refusal)
 }

@@ -25,7 +25,7 @@ ghost use Rattle.std.specs.Prelude.{◌≡◌, ◌≤◌, false, is_some, IfSome
 ghost use Rattle.lg_http.specs.Meaning.Slots.{AreFree, slots_of};
 ghost use Rattle.lg_node.specs.Meaning.Nodes.{ServesIf, TellsServed, WatchesIf};
 ghost use Rattle.lg_loops.specs.Meaning.BothLoops.{BothRan};
-ghost use Rattle.lg_loops.specs.Meaning.Turns.{line, receives, Lasted};
+ghost use Rattle.lg_loops.specs.Meaning.Turns.{line, receives, unstarted, Lasted};
 ghost use Rattle.lg_loops.specs.Meaning.Words.{DrawsEight};
 
 use crate::following::Watching;
@@ -130,13 +130,24 @@ where
     pub served: Option<Served>,
 }
 
-/// The same end, but of a loop that was refused: no thread could be started for it, since memory was refused.
-fn without_thread<L, A: AgentName>(ended: Ended<L, A>) -> Ended<L, A>
-    ensures { result ≡ record ended { end = record ended.end { why = Why.Refused Refusal.NoMemory } } }
+/// What both loops give back if no thread could be started for the receiving one, which then ended so: its end says
+/// that memory was refused, and the ticking one made no turn.
+fn without_thread<L, A: AgentName>(
+    received: Ended<L, A>,
+    ticker: Side<'_, L, A>,
+    dice: PcgDice,
+    plan: Plan,
+) -> Both<L, A>
+    ensures received { result.0 ≡ record received { end = record received.end { why = Why.Refused Refusal.NoMemory } } }
+    ensures link { result.1.link ≡ ticker.entry.link }
+    ensures spent { result.1.spent ≡ ticker.entry.pass }
+    ensures end { result.1.end ≡ unstarted }
 {
-    let mut ended = ended;
-    ended.end.why = Why::Refused(Refusal::NoMemory);
-    ended
+    drop(dice);
+    drop(plan);
+    let mut received = received;
+    received.end.why = Why::Refused(Refusal::NoMemory);
+    (received, ticker.unstarted())
 }
 
 /// Tells those who look that the loops have ended.
@@ -233,7 +244,7 @@ where
                 }
                 Err(refused) => {
                     shared.over.store(true, SeqCst);
-                    (without_thread((refused.value)()), ticker.unstarted())
+                    without_thread((refused.value)(), ticker, dice, plan)
                 }
             };
             tell_ended(shared, signal);

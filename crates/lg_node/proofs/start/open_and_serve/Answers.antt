@@ -5,14 +5,14 @@ use Rattle.lg_node.proofs.start.open_and_serve.Goals as goal
 
 pub returns-clause-ran : goal.returns-clause-ran
 returns-clause-ran g c =
-    let opened = c.in-Ok-open_agent.ensures in
-    let begun = c.in-Ok-begin.ensures.begun c.now-start.result opened.name opened.told.1 in
+    let opened = c.in-Ok.ensures in
+    let begun = c.in-Ok-begin.ensures.begun opened.told.0 opened.name opened.told.1 in
     let ready = c.in-Ok-begin.ready in
     let told = c.in-Ok-begin.ensures.told in
     let left = c.leave-left in
     let end = c.close.ensures in
     let threads = c.join_threads-looked in record {
-      start = c.now-start.result;
+      start = opened.told.0;
       receiver = left.result.receiver;
       ticker = left.result.ticker;
       reader = left.result.reader;
@@ -58,5 +58,5 @@ returns-clause-ran g c =
 
 pub returns-in-Err-begin-clause-refused : goal.returns-in-Err-begin-clause-refused
 returns-in-Err-begin-clause-refused g c =
-    let opened = c.in-Ok-open_agent.ensures in
-    rw c.give_up.ensures (c.in-Err-begin.ensures.refused c.now-start.result opened.name opened.told.1)
+    let opened = c.in-Ok.ensures in
+    rw c.give_up.ensures (c.in-Err-begin.ensures.refused opened.told.0 opened.name opened.told.1)

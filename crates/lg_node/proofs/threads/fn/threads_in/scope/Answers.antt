@@ -13,13 +13,13 @@ returns g c =
         served = served;
       }
       | in-Err w ↦ record {
-        ran = rw (w.both-is, w.without_thread.ensures) (inr (
+        ran = rw (w.both-is, w.without_thread-both.ensures.received) (inr (
           record {
             was = w.spawn_with.result.end.why;
             ran = rw (← c.requires.bound.1, ← c.requires.bound.2, ← c.requires.bound.3, ← c.requires.start.1, ← c.requires.start.0) (rw w.in-Err.ensures.err at w.spawn_with.ensures);
             why = refl;
           },
-          record { same_link = rw w.unstarted.ensures.link refl; same_pass = w.unstarted.ensures.spent; ended = w.unstarted.ensures.end },
+          record { same_link = rw w.without_thread-both.ensures.link refl; same_pass = w.without_thread-both.ensures.spent; ended = w.without_thread-both.ensures.end },
         ));
         watched = watched;
         served = served;
