@@ -61,8 +61,8 @@ fn place_after(word: u64, below: usize) -> usize
     rest.trailing_zeros() as usize
 }
 
-/// The place, below 64, of the set bit of a word that has `index` set bits below it. If these are many, three steps pass
-/// by most of them, so that at most seven are cleared one by one.
+/// The place, below 64, of the set bit of a word that has `index` set bits below it. If these are many, three steps
+/// pass by most of them, so that at most seven are cleared one by one.
 #[inline(always)]
 pub(crate) fn nth_bit(word: u64, index: usize) -> usize
     requires { index < count_ones word }

@@ -77,8 +77,8 @@ fn run_peer<S: Site>(peer: &mut Peer, desk: &mut Desk<S>, turn: &Turn) -> Option
     }
 }
 
-// The next two are apart and take any type, so that the checker doesn't take a connection apart at each place that drops
-// one.
+// The next two are apart and take any type, so that the checker doesn't take a connection apart at each place that
+// drops one.
 
 /// Frees a place. What it had is dropped.
 fn free<T: Drop>(place: &mut Option<T>)

@@ -41,7 +41,11 @@ fn finds_the_nth_number(rt: HostRuntime) {
             set.insert(number as u8);
         }
         for index in 0..NUMBERS.div_ceil(step) {
-            assert_eq!(rt; set.nth(index), Some((step * index) as u8), "{index} of {step}");
+            assert_eq!(rt;
+                set.nth(index),
+                Some((step * index) as u8),
+                "{index} of {step}"
+            );
         }
         assert_eq!(rt; set.nth(NUMBERS.div_ceil(step)), None, "{step}");
     }

@@ -93,7 +93,8 @@ impl Membership {
         ensures log { (log : GroupLog) → self.now ≡ group_state_of log → result ≡ news log }
         // Without news a packet to anybody takes no claim, and with news it takes some.
         ensures none { (log : GroupLog) → self.now ≡ group_state_of log → result ≡ false → fill Anybody log ≡ [] }
-        ensures some { (log : GroupLog) → self.now ≡ group_state_of log → result ≡ true → 0 < length (fill Anybody log) }
+        ensures some { (log : GroupLog) → self.now ≡ group_state_of log → result ≡ true
+            → 0 < length (fill Anybody log) }
     {
         self.queue.has_news(self.members.live())
     }
