@@ -66,34 +66,6 @@ impl Noted {
     }
 }
 
-/// What the loops share: one clock, and the flag by which they are told to stop.
-fn shared<'a, R>(
-    rt: &'a R,
-    alloc: Global,
-    clock: &'a PausedClock<'a, R>,
-    stop: &'a AtomicBool,
-    noted: &'a Noted,
-) -> Shared<'a, R, PausedClock<'a, R>>
-    ensures bound { result.bound ≡ BOUND }
-    ensures name { result.counters.now.name ≡ noted.now.counters.name }
-{
-    Shared {
-        rt,
-        alloc,
-        clock,
-        stop,
-        over: stop,
-        page_heard: &noted.page_heard,
-        group: None,
-        counters: &noted.counters,
-        changes: &noted.changes,
-        signal: None,
-        bound: BOUND,
-        endless: false,
-        wait_ms: WAIT_MS,
-    }
-}
-
 /// A plan of ticks until a moment, at which the member may leave. It doesn't linger then.
 fn ticks_until(until: u64, leaves: bool) -> Plan {
     Plan {
@@ -116,7 +88,22 @@ pub fn run_alone<A: AgentName, R: Wait + rt::Clock>(
     let signs = Signs::new(false);
     let clock = PausedClock::new(rt, true);
     let noted = Noted::new(Name::default());
-    let shared = shared(rt, alloc, &clock, &signs.stop, &noted);
+    // Written out in both functions, since the checker follows no call that is handed the clock and what it reads.
+    let shared = Shared {
+        rt,
+        alloc,
+        clock: &clock,
+        stop: &signs.stop,
+        over: &signs.stop,
+        page_heard: &noted.page_heard,
+        group: None,
+        counters: &noted.counters,
+        changes: &noted.changes,
+        signal: None,
+        bound: BOUND,
+        endless: false,
+        wait_ms: WAIT_MS,
+    };
     let side = Side::new(pass, PingLink::new(rt, &signs));
     let Ended { link, spent, end } = match alone {
         Alone::Receiving => receive_loop(&shared, side),
@@ -242,7 +229,22 @@ where
     let signs = Signs::new(true);
     let clock = PausedClock::new(rt, false);
     let noted = Noted::new(name);
-    let shared = shared(rt, alloc, &clock, &signs.stop, &noted);
+    // Written out in both functions, since the checker follows no call that is handed the clock and what it reads.
+    let shared = Shared {
+        rt,
+        alloc,
+        clock: &clock,
+        stop: &signs.stop,
+        over: &signs.stop,
+        page_heard: &noted.page_heard,
+        group: None,
+        counters: &noted.counters,
+        changes: &noted.changes,
+        signal: None,
+        bound: BOUND,
+        endless: false,
+        wait_ms: WAIT_MS,
+    };
     let sides = Sides::of(
         Side::new(receiver, PingLink::new(rt, &signs)),
         Side::new(ticker, PingLink::new(rt, &signs)),
