@@ -52,18 +52,18 @@ impl Signs {
 
 /// A link over which two Pings come. At the second the loops are told to stop.
 #[derive(Drop)]
-pub struct PingLink<'a, R> {
-    rt: &'a R,
-    signs: &'a Signs,
+pub struct PingLink<'r, 's, R> {
+    rt: &'r R,
+    signs: &'s Signs,
     /// How often a datagram was waited for.
     received: u64,
     /// How many packets were handed over.
     pub handed: usize,
 }
 
-impl<'a, R> PingLink<'a, R> {
+impl<'r, 's, R> PingLink<'r, 's, R> {
     /// A link that wasn't called yet.
-    pub fn new(rt: &'a R, signs: &'a Signs) -> PingLink<'a, R> {
+    pub fn new(rt: &'r R, signs: &'s Signs) -> PingLink<'r, 's, R> {
         PingLink {
             rt,
             signs,
@@ -82,7 +82,7 @@ fn put(buffer: &mut [u8; MAX_DATAGRAM], bytes: &[u8]) -> usize
     length
 }
 
-impl<'a, R: rt::Clock> Link for PingLink<'a, R> {
+impl<'r, 's, R: rt::Clock> Link for PingLink<'r, 's, R> {
     ghost use Rattle.std.specs.Prelude.{false, []};
 
     ghost tells = { false };
