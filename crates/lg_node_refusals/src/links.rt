@@ -1,4 +1,4 @@
-//! A link and a clock that never fail.
+//! A link and clocks that never fail.
 ghost use Rattle.std.specs.Prelude.{◌≤◌};
 
 use lg_clock::Clock;
@@ -52,18 +52,18 @@ impl Signs {
 
 /// A link over which two Pings come. At the second the loops are told to stop.
 #[derive(Drop)]
-pub struct PingLink<'r, 's, R> {
-    rt: &'r R,
-    signs: &'s Signs,
+pub struct PingLink<'m, R> {
+    rt: &'m R,
+    signs: &'m Signs,
     /// How often a datagram was waited for.
     received: u64,
     /// How many packets were handed over.
     pub handed: usize,
 }
 
-impl<'r, 's, R> PingLink<'r, 's, R> {
+impl<'m, R> PingLink<'m, R> {
     /// A link that wasn't called yet.
-    pub fn new(rt: &'r R, signs: &'s Signs) -> PingLink<'r, 's, R> {
+    pub fn new(rt: &'m R, signs: &'m Signs) -> PingLink<'m, R> {
         PingLink {
             rt,
             signs,
@@ -82,7 +82,7 @@ fn put(buffer: &mut [u8; MAX_DATAGRAM], bytes: &[u8]) -> usize
     length
 }
 
-impl<'r, 's, R: rt::Clock> Link for PingLink<'r, 's, R> {
+impl<'m, R: rt::Clock> Link for PingLink<'m, R> {
     ghost use Rattle.std.specs.Prelude.{false, []};
 
     ghost tells = { false };
@@ -120,36 +120,43 @@ impl<'r, 's, R: rt::Clock> Link for PingLink<'r, 's, R> {
     }
 }
 
-/// A clock that begins at 0. If it moves, it goes on by its pauses alone, which take no time. If not, it is always 0,
-/// and its pauses last a millisecond.
+/// A clock that begins at 0, and goes on by its pauses alone, which take no time.
 #[derive(Drop)]
-pub struct PausedClock<'a, R> {
-    rt: &'a R,
-    moves: bool,
+pub struct MovingClock {
     now: AtomicU64,
 }
 
-impl<'a, R> PausedClock<'a, R> {
-    /// A clock that moves, or stands.
-    pub fn new(rt: &'a R, moves: bool) -> PausedClock<'a, R> {
-        PausedClock {
-            rt,
-            moves,
+impl MovingClock {
+    /// A clock at 0.
+    pub fn new() -> MovingClock {
+        MovingClock {
             now: AtomicU64::new(0),
         }
     }
 }
 
-impl<'a, R: rt::Clock> Clock for PausedClock<'a, R> {
+impl Clock for MovingClock {
     fn now(&self) -> Moment {
         at(self.now.load(SeqCst))
     }
 
     fn pause(&self, ms: u64) {
-        if self.moves {
-            self.now.fetch_add(ms, SeqCst);
-        } else {
-            thread::sleep(self.rt, Duration::from_millis(1));
-        }
+        self.now.fetch_add(ms, SeqCst);
+    }
+}
+
+/// A clock at which it is always 0. Its pauses last a millisecond.
+#[derive(Drop)]
+pub struct StandingClock<'m, R> {
+    pub rt: &'m R,
+}
+
+impl<'m, R: rt::Clock> Clock for StandingClock<'m, R> {
+    fn now(&self) -> Moment {
+        at(0)
+    }
+
+    fn pause(&self, _ms: u64) {
+        thread::sleep(self.rt, Duration::from_millis(1));
     }
 }

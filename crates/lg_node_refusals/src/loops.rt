@@ -1,16 +1,19 @@
 //! One loop of a node by itself, and all threads of a node at once.
-ghost use Rattle.std.specs.Prelude.{◌≡◌};
+ghost use Rattle.std.specs.Prelude.{◌≡◌, ◌≤◌};
 
-use crate::links::{PausedClock, PingLink, Signs};
+use crate::links::{MovingClock, PingLink, Signs, StandingClock};
 use arrayvec::ArrayVec;
+use left_right::Absorb;
 use lg_agent::{AgentName, Pass, Spent};
+use lg_detector::Event;
 use lg_node::{
-    Both, ChangeSignal, Counters, Ended, Looked, Lookers, LoopEnd, PcgDice, Plan, Settings, Shared,
-    Side, Sides, StatusServer, Watched, join_threads, receive_loop, tick_loop,
+    Both, ChangeSignal, Counters, Ended, Looked, Lookers, LoopEnd, MAX_TURNS, PcgDice, Plan,
+    Settings, Shared, Side, Sides, StatusServer, Watched, join_threads, receive_loop, tick_loop,
 };
 use lg_rules::Name;
 use lg_testing::{Room, at, letter, local};
 use lg_timing::{Config, MAX_MOMENT};
+use lg_view::{Published, Update};
 use std::alloc::Global;
 use std::rt;
 use std::sync::Wait;
@@ -78,23 +81,23 @@ fn ticks_until(until: u64, leaves: bool) -> Plan {
     }
 }
 
-/// Runs one loop with a pass.
-pub fn run_alone<A: AgentName, R: Wait + rt::Clock>(
-    rt: &R,
+/// What the loops share: a clock, and one flag by which they are told to stop.
+fn shared<'a, R, C>(
+    rt: &'a R,
     alloc: Global,
-    pass: Pass<'_, A>,
-    alone: Alone,
-) -> (AloneSeen, Spent<A>) {
-    let signs = Signs::new(false);
-    let clock = PausedClock::new(rt, true);
-    let noted = Noted::new(Name::default());
-    // Written out in both functions, since the checker follows no call that is handed the clock and what it reads.
-    let shared = Shared {
+    clock: &'a C,
+    stop: &'a AtomicBool,
+    noted: &'a Noted,
+) -> Shared<'a, R, C>
+    ensures bound { result.bound ≡ BOUND }
+    ensures name { result.counters.now.name ≡ noted.now.counters.name }
+{
+    Shared {
         rt,
         alloc,
-        clock: &clock,
-        stop: &signs.stop,
-        over: &signs.stop,
+        clock,
+        stop,
+        over: stop,
         page_heard: &noted.page_heard,
         group: None,
         counters: &noted.counters,
@@ -103,14 +106,38 @@ pub fn run_alone<A: AgentName, R: Wait + rt::Clock>(
         bound: BOUND,
         endless: false,
         wait_ms: WAIT_MS,
-    };
-    let side = Side::new(pass, PingLink::new(rt, &signs));
-    let Ended { link, spent, end } = match alone {
-        Alone::Receiving => receive_loop(&shared, side),
+    }
+}
+
+/// Runs one loop of a side.
+fn run_loop<'m, A: AgentName, R: Wait + rt::Clock>(
+    shared: &Shared<'_, R, MovingClock>,
+    side: Side<'_, PingLink<'m, R>, A>,
+    alone: Alone,
+) -> Ended<PingLink<'m, R>, A>
+    requires { shared.now.bound ≤ MAX_TURNS }
+{
+    match alone {
+        Alone::Receiving => receive_loop(shared, side),
         Alone::Ticking(until, leaves) => {
-            tick_loop(&shared, side, PcgDice::new(0), ticks_until(until, leaves))
+            tick_loop(shared, side, PcgDice::new(0), ticks_until(until, leaves))
         }
-    };
+    }
+}
+
+/// Runs one loop with a pass, and a link that gives these signs.
+fn run_pass<'m, A: AgentName, R: Wait + rt::Clock>(
+    rt: &'m R,
+    alloc: Global,
+    signs: &'m Signs,
+    pass: Pass<'_, A>,
+    alone: Alone,
+) -> (AloneSeen, Spent<A>) {
+    let clock = MovingClock::new();
+    let noted = Noted::new(Name::default());
+    let shared = shared(rt, alloc, &clock, &signs.stop, &noted);
+    let side = Side::new(pass, PingLink::new(rt, signs));
+    let Ended { link, spent, end } = run_loop(&shared, side, alone);
     let seen = AloneSeen {
         end,
         answered: spent.made(),
@@ -119,6 +146,17 @@ pub fn run_alone<A: AgentName, R: Wait + rt::Clock>(
         stop: signs.stop.load(SeqCst),
     };
     (seen, spent)
+}
+
+/// Runs one loop with a pass.
+pub fn run_alone<A: AgentName, R: Wait + rt::Clock>(
+    rt: &R,
+    alloc: Global,
+    pass: Pass<'_, A>,
+    alone: Alone,
+) -> (AloneSeen, Spent<A>) {
+    let signs = Signs::new(false);
+    run_pass(rt, alloc, &signs, pass, alone)
 }
 
 /// What a watcher has told.
@@ -183,29 +221,77 @@ fn settings_of(follow: bool) -> Settings {
     }
 }
 
-/// What is seen of the threads of a node, and what its passes leave.
-fn seen_of<A: AgentName, L>(
-    looked: Looked<'_, A>,
-    both: Both<L, A>,
-    writer: &Room,
-) -> (BothSeen, [Spent<A>; 4])
+/// The four passes of a node.
+#[derive(Drop)]
+struct Four<'p, A: AgentName>
 where
-    L: Drop,
+    Published<A>: Absorb<Update<A>, State = [Event; 0]>,
 {
-    let (received, ticked) = both;
-    let seen = BothSeen {
-        receiving: received.end,
-        ticking: ticked.end,
-        watched: looked.watched,
-        text: Text::of(writer),
+    receiver: Pass<'p, A>,
+    ticker: Pass<'p, A>,
+    watcher: Pass<'p, A>,
+    status: Pass<'p, A>,
+}
+
+/// These passes, unless there are fewer than four.
+fn taken<'p, A: AgentName>(passes: Vec<Pass<'p, A>>) -> Option<Four<'p, A>> {
+    let mut passes = passes;
+    let status = passes.pop()?;
+    let watcher = passes.pop()?;
+    let ticker = passes.pop()?;
+    let receiver = passes.pop()?;
+    Some(Four {
+        receiver,
+        ticker,
+        watcher,
+        status,
+    })
+}
+
+/// What the threads of a node leave, and what its watcher told.
+type Ran<'p, 'm, R, A> = (Looked<'p, A>, Both<PingLink<'m, R>, A>, Text);
+
+/// Runs the threads of a node that nobody asks, until its link tells it to stop. One clock always says 0.
+fn run_threads<'p, 'm, A, R>(
+    rt: &'m R,
+    alloc: Global,
+    signs: &'m Signs,
+    passes: Four<'p, A>,
+    follow: bool,
+) -> Ran<'p, 'm, R, A>
+where
+    A: AgentName + Send + Sync,
+    R: Threads + Wait + rt::Clock + Sync,
+{
+    let name = letter(b'b');
+    let config = Config::new(name, local(7102));
+    let settings = settings_of(follow);
+    let clock = StandingClock { rt };
+    let noted = Noted::new(name);
+    let shared = shared(rt, alloc, &clock, &signs.stop, &noted);
+    let Four {
+        receiver,
+        ticker,
+        watcher,
+        status,
+    } = passes;
+    let sides = Sides::of(
+        Side::new(receiver, PingLink::new(rt, signs)),
+        Side::new(ticker, PingLink::new(rt, signs)),
+        PcgDice::new(0),
+        ticks_until(MAX_MOMENT, false),
+    );
+    let server: Option<StatusServer<'m, 'm, R>> = None;
+    let lookers = Lookers {
+        config: &config,
+        settings: &settings,
+        watcher,
+        status,
+        server,
     };
-    let left = [
-        looked.watcher.finish(),
-        looked.status.finish(),
-        received.spent,
-        ticked.spent,
-    ];
-    (seen, left)
+    let (mut writer, mut faults) = (Room::failing(0), Room::failing(0));
+    let (looked, (both, _)) = join_threads(&shared, sides, lookers, &mut writer, &mut faults);
+    (looked, both, Text::of(&writer))
 }
 
 /// Runs the threads of a node that nobody asks, with four passes, until its link tells it to stop. There may be a
@@ -220,46 +306,19 @@ where
     A: AgentName + Send + Sync,
     R: Threads + Wait + rt::Clock + Sync,
 {
-    let mut passes = passes;
-    let (status, watcher) = (passes.pop()?, passes.pop()?);
-    let (ticker, receiver) = (passes.pop()?, passes.pop()?);
-    let name = letter(b'b');
-    let config = Config::new(name, local(7102));
-    let settings = settings_of(follow);
     let signs = Signs::new(true);
-    let clock = PausedClock::new(rt, false);
-    let noted = Noted::new(name);
-    // Written out in both functions, since the checker follows no call that is handed the clock and what it reads.
-    let shared = Shared {
-        rt,
-        alloc,
-        clock: &clock,
-        stop: &signs.stop,
-        over: &signs.stop,
-        page_heard: &noted.page_heard,
-        group: None,
-        counters: &noted.counters,
-        changes: &noted.changes,
-        signal: None,
-        bound: BOUND,
-        endless: false,
-        wait_ms: WAIT_MS,
+    let (looked, (received, ticked), text) = run_threads(rt, alloc, &signs, taken(passes)?, follow);
+    let seen = BothSeen {
+        receiving: received.end,
+        ticking: ticked.end,
+        watched: looked.watched,
+        text,
     };
-    let sides = Sides::of(
-        Side::new(receiver, PingLink::new(rt, &signs)),
-        Side::new(ticker, PingLink::new(rt, &signs)),
-        PcgDice::new(0),
-        ticks_until(MAX_MOMENT, false),
-    );
-    let server: Option<StatusServer<'_, '_, R>> = None;
-    let lookers = Lookers {
-        config: &config,
-        settings: &settings,
-        watcher,
-        status,
-        server,
-    };
-    let (mut writer, mut faults) = (Room::failing(0), Room::failing(0));
-    let (looked, (both, _)) = join_threads(&shared, sides, lookers, &mut writer, &mut faults);
-    Some(seen_of(looked, both, &writer))
+    let left = [
+        looked.watcher.finish(),
+        looked.status.finish(),
+        received.spent,
+        ticked.spent,
+    ];
+    Some((seen, left))
 }
