@@ -51,13 +51,13 @@ fn suspicion_in(member: &Value) -> Option<Status>
 fn standing_in(word: &[u8], member: &Value) -> Option<Status>
     ensures { result ≡ standing_said word.now (view member.now) }
 {
-    if word == b"alive".as_slice() {
+    if word == "alive".as_bytes() {
         plain_status(Status::Alive, member)
-    } else if word == b"suspect".as_slice() {
+    } else if word == "suspect".as_bytes() {
         suspicion_in(member)
-    } else if word == b"failed".as_slice() {
+    } else if word == "failed".as_bytes() {
         plain_status(Status::Failed, member)
-    } else if word == b"left".as_slice() {
+    } else if word == "left".as_bytes() {
         plain_status(Status::Left, member)
     } else {
         None
