@@ -50,7 +50,11 @@ where
         (F.reported faults.old) (F.reported faults.new) bytes.now result }
 {
     match NodeConfig::read(alloc, bytes) {
-        Ok(node) => check_config(alloc, &node, writer, faults),
+        Ok(node) => {
+            let status = check_config(alloc, &node, writer, faults);
+            drop(node);
+            status
+        }
         Err(ReadFault::NoMemory) => tell(Told::Memory, faults),
         Err(ReadFault::File(fault)) => tell_fault(alloc, bytes, fault, faults),
     }

@@ -77,9 +77,14 @@ where
     };
     let keys = match keys_at(rt, alloc, &node.key_file) {
         Ok(keys) => keys,
-        Err(fault) => return tell_no_keys(fault, faults),
+        Err(fault) => {
+            drop(node);
+            return tell_no_keys(fault, faults);
+        }
     };
     let Ok(()) = announce(alloc, wishes, &node, faults) else {
+        drop(keys);
+        drop(node);
         return tell(Told::Memory, faults);
     };
     let settings = settings_of(&node, keys, wishes.follow);
@@ -91,7 +96,11 @@ where
     };
     let ran = run_node(rt, alloc, &start, writer, faults);
     let written = write_table(alloc, &ran, wishes.follow, writer);
-    tell_run(alloc, &node, &ran, Told::of(&ran, written), faults)
+    let status = tell_run(alloc, &node, &ran, Told::of(&ran, written), faults);
+    drop(ran);
+    drop(settings);
+    drop(node);
+    status
 }
 
 /// The settings of a node: what its configuration says, with these keys, and whether it follows.

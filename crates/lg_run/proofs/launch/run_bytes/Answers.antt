@@ -20,11 +20,11 @@ returns g c =
             c.in-Ok-keys_at.ensures.keys,
             inl
                 (announced-runs g.W.Write.contents g.F.FaultStream.reported c.args.writer.now run.new.writer written.new.writer
-                c.args.faults.now c.announce.new.faults run.new.faults c.tell_run.new.faults wishes.file.now node keys
-                wishes.until wishes.follow c.settings_of-settings.result c.end_wished.result run.result written.result c.of.result c.tell_run.result
+                c.args.faults.now c.announce.new.faults run.new.faults c.tell_run-status.new.faults wishes.file.now node keys
+                wishes.until wishes.follow c.settings_of-settings.result c.end_wished.result run.result written.result c.of.result c.tell_run-status.result
                 c.in-Ok-announce.ensures.said c.settings_of-settings.ensures c.end_wished.ensures
                 run.ensures.ran run.ensures.refused run.ensures.alone run.ensures.unwritten run.ensures.told run.ensures.untold
-                written.ensures c.of.ensures c.tell_run.ensures.lines c.tell_run.ensures.status),
+                written.ensures c.of.ensures c.tell_run-status.ensures.lines c.tell_run-status.ensures.status),
           );
     }
 
