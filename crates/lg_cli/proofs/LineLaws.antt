@@ -1,9 +1,8 @@
--- A command line that is taken, by what its command did, and one that isn't run.
-use Rattle.std.proofs.Common.{◌≡◌, ℕ, List, [], Option, inl, inr, ap, sym, ◌∙◌, subst}
+-- A command line that is taken, by what its command did.
+use Rattle.std.proofs.Common.{◌≡◌, ℕ, List, [], Option, inl, ap, sym, ◌∙◌, subst}
 use Rattle.lg_text.specs.Meaning.Reporting.{Reported}
 use Rattle.lg_command_line.specs.declared.asked.Asked.{Asked}
 use Rattle.lg_command_line.specs.Meaning.Commands.{asked, line_faults}
-use Rattle.lg_command_line.specs.Meaning.Leaving.{IsLeft}
 use Rattle.lg_command_line.specs.Support.Requests.{request_of}
 use Rattle.lg_cli.specs.Meaning.Running.{streams, Streams, RunsLine, RunsRequest}
 
@@ -13,15 +12,13 @@ pub same-streams : {R W F : Type 0} (contents : W → Option (List ℕ)) (report
 same-streams contents reported reader left {writer = writer} {faults' = faults'} unwritten unreported =
     ap (λ w. streams reader left w (contents w) (reported faults')) unwritten ∙ ap (λ f. streams reader left writer (contents writer) (reported f)) unreported
 
+-- what was found is run, if the command that it is is run
+pub found-runs : {R W : Type 0} (before after : Streams R W) {found command : Asked} (status : ℕ) → found ≡ command → RunsRequest before after (request_of command) status → RunsRequest before after (request_of found) status
+found-runs before after status is run = subst (λ asked. RunsRequest before after (request_of asked) status) (sym is) run
+
 -- The command that was found is run, by the streams that the line was taken with.
 pub taken-runs : {R W : Type 0} (after : Streams R W) {before between : Streams R W} {line : List (List ℕ)} {found command : Asked} {status : ℕ} → line_faults line ≡ [] → request_of found ≡ asked line → between ≡ before → found ≡ command
     → RunsRequest between after (request_of command) status → RunsLine before after line status
 taken-runs after {between = between} {line = line} {status = status} none asks same is run =
     let line_run = subst (λ request. RunsRequest between after request status) (sym (ap request_of is) ∙ asks) run in
     record { taken = λ _. inl (subst (λ before. RunsRequest before after (asked line) status) same line_run); left = λ some. absurd (some none) }
-
--- The line isn't run, and nothing is read.
-pub left-line : {R W : Type 0} (before after : Streams R W) (line : List (List ℕ)) (status : ℕ) → after.reader ≡ before.reader → IsLeft before.writer after.writer before.reported after.reported line status
-    → RunsLine before after line status
-left-line before after line status unread (inl leaves) = record { taken = λ none. absurd (leaves.0 none); left = λ some. inl (unread, leaves.1) }
-left-line before after line status unread (inr lacks) = record { taken = λ none. inr (unread, lacks); left = λ some. inr (unread, lacks) }

@@ -3,12 +3,15 @@
 //! Defined in: `specs/Meaning/Running.antt`, `specs/Meaning/Faults.antt`,
 //! `lg_command_line/specs/Meaning/Commands.antt`, `Leaving.antt`.
 //! Tested in: `cases/command_line.case`, `cases/node.case`, `cases/node_command.case`, `cases/ask.case`.
-ghost use Rattle.std.specs.Prelude.{◌≡◌, ◌≢◌, ◌≤◌, IfSome, map};
+ghost use Rattle.std.specs.Prelude.{◌≡◌, ◌≢◌, ◌≤◌, true, IfSome, map};
 ghost use Rattle.std.specs.IoError.{error_kind};
 ghost use Rattle.lg_text.specs.Meaning.Faults.{run_fault_text};
 ghost use Rattle.lg_text.specs.Meaning.Reporting.{Reports};
+ghost use Rattle.lg_commands.specs.Meaning.Timeouts.{are_good};
+ghost use Rattle.lg_command_line.specs.Meaning.Commands.{IfNode, IfTimeouts};
+ghost use Rattle.lg_command_line.specs.Support.Requests.{request_of};
 ghost use Rattle.lg_cli.specs.Meaning.Faults.{foreign_text};
-ghost use Rattle.lg_cli.specs.Meaning.Running.{streams, RunsLine};
+ghost use Rattle.lg_cli.specs.Meaning.Running.{streams, RunsLine, RunsRequest};
 
 use crate::ask::{AskWords, ask_node};
 use crate::node::{Owned, stop_flag, tell_unstarted};
@@ -75,8 +78,65 @@ where
     let alloc = rt.alloc();
     let asked = match take_words(alloc, words, writer, faults) {
         Ok(asked) => asked,
-        Err(status) => return status,
+        Err(status) => {
+            drop(owned);
+            return status;
+        }
     };
+    let Asked::Node {
+        file,
+        for_ms,
+        follow,
+        until_input_ends,
+    } = asked
+    else {
+        drop(owned);
+        return run_other(rt, asked, reader, writer, faults);
+    };
+    let bytes = match file_bytes(rt, alloc, file) {
+        Ok(bytes) => bytes,
+        Err(none) => {
+            drop(owned);
+            return tell_no_bytes(alloc, file, none, faults);
+        }
+    };
+    let Ok(stop) = stop_flag(rt, alloc, owned, until_input_ends, follow, writer) else {
+        drop(bytes);
+        return tell_unstarted(faults);
+    };
+    let wishes = Wishes {
+        file,
+        until: end_after(for_ms),
+        follow,
+        stop: &stop,
+    };
+    let status = run_bytes(rt, alloc, &bytes, &wishes, writer, faults);
+    drop(stop);
+    drop(bytes);
+    status
+}
+
+/// Runs any command but `node`, as [`run_words`] says, and gives its exit status.
+fn run_other<M, R, W, F>(
+    rt: &M,
+    asked: Asked<'_>,
+    reader: &mut R,
+    writer: &mut W,
+    faults: &mut F,
+) -> u8
+where
+    M: AllocGlobal + Net + rt::Clock + Files,
+    R: Read,
+    W: Write,
+    F: FaultStream,
+    requires other { IfNode (request_of asked) (λ file for_ms follow until_input_ends. ⊥) }
+    requires good { IfTimeouts (request_of asked) (λ numbers. are_good numbers ≡ true) }
+    ensures { RunsRequest
+        (streams reader.old (R.remaining reader.old) writer.old (W.contents writer.old) (F.reported faults.old))
+        (streams reader.new (R.remaining reader.new) writer.new (W.contents writer.new) (F.reported faults.new))
+        (request_of asked.entry) result }
+{
+    let alloc = rt.alloc();
     match asked {
         Asked::Answer { name } => answer_named(alloc, name, reader, writer, faults),
         Asked::Order { names, words } => order_lists(alloc, names, words, writer, faults),
@@ -87,27 +147,7 @@ where
             let words = AskWords { question, at, json };
             ask_node(rt, alloc, &words, writer, faults)
         }
-        Asked::Node {
-            file,
-            for_ms,
-            follow,
-            until_input_ends,
-        } => {
-            let bytes = match file_bytes(rt, alloc, file) {
-                Ok(bytes) => bytes,
-                Err(none) => return tell_no_bytes(alloc, file, none, faults),
-            };
-            let Ok(stop) = stop_flag(rt, alloc, owned, until_input_ends, follow, writer) else {
-                return tell_unstarted(faults);
-            };
-            let wishes = Wishes {
-                file,
-                until: end_after(for_ms),
-                follow,
-                stop: &stop,
-            };
-            run_bytes(rt, alloc, &bytes, &wishes, writer, faults)
-        }
+        Asked::Node { .. } => unreachable!(),
     }
 }
 
