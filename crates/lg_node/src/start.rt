@@ -1,8 +1,8 @@
 //! The start of a node, from its clock to its loops, and its end. Its sockets are bound by then.
 //!
 //! [`open_and_serve`] opens the agent ([`open_node`]) and closes it ([`close`]). Between these the passes are handed
-//! out and the seeds are asked ([`begin`]), all threads run ([`join_threads`]), and the members are read ([`leave`]). What
-//! is let go at the end of a block is proved field by field, each time anew, and what a call takes isn't. So large
+//! out and the seeds are asked ([`begin`]), all threads run ([`join_threads`]), and the members are read ([`leave`]).
+//! What is let go at the end of a block is proved field by field, each time anew, and what a call takes isn't. So large
 //! values are handed to a call here, to `drop` if there is no other.
 //!
 //! Defined in: `specs/Meaning/Starts.antt`, `specs/Meaning/Nodes.antt`, `lg_loops/specs/Meaning/NodeLinks.antt`.
