@@ -24,5 +24,6 @@ pub mod Accepting
 pub mod AcceptedLists
 pub mod Deadlines
 pub mod Numbers
+pub mod NumbersApart
 pub mod ChoiceLaws
 pub mod Summaries

@@ -136,7 +136,7 @@ all-more : (first n m : ℕ) (ks : List ℕ) → n ≤ m → AllTaken first n ks
 all-more first n m [] le a = tt
 all-more first n m (k ∷ ks) le a = (taken-more first n m k le a.0, all-more first n m ks le a.1)
 
-abbrev numbers : List Relay → List ℕ
+abbrev pub numbers : List Relay → List ℕ
 numbers rs = map (λ r. r.number) rs
 
 all-fewer : (first n : ℕ) (p : Relay → Bool) (rs : List Relay) → AllTaken first n (numbers rs) → AllTaken first n (numbers (filter p rs))
@@ -151,7 +151,7 @@ all-one_more first n [] r a t = (t, tt)
 all-one_more first n (x ∷ rs) r a t = (a.0, all-one_more first n rs r a.1 t)
 
 -- The numbers of the open relays, and of the probe that runs, were taken.
-starts-more : (b : Bool) (n : ℕ) → n ≤ cond b (n + 1) n
+pub starts-more : (b : Bool) (n : ℕ) → n ≤ cond b (n + 1) n
 starts-more true n = omega arith
 starts-more false n = omega arith
 
@@ -199,7 +199,7 @@ relays-taken (OfGroup (group.Sent taken) ∷ log) = relays-taken log
 relays-taken (OfGroup (group.Forgot m) ∷ log) = relays-taken log
 relays-taken (OfGroup group.Departed ∷ log) = relays-taken log
 
-abbrev number_of : Option Probe → List ℕ
+abbrev pub number_of : Option Probe → List ℕ
 number_of p = map (λ p. p.number) (option_to_list p)
 
 new-taken : (log : Log) (o : Option (List ℕ)) → AllTaken (first_of log) (cond (is_some o) (taken_count log + 1) (taken_count log)) (number_of (new_probe (number log) o))
@@ -246,7 +246,7 @@ none_next first n (k ∷ ks) good few a = elim (cases_Bool (k == number_at first
   | inr f ↦ rw f (none_next first n ks good few a.1)
 ]
 
-free : (log : Log) → first_of log ≤ highest_number → taken_count log < highest_number → is_next_in_use log ≡ false
+pub free : (log : Log) → first_of log ≤ highest_number → taken_count log < highest_number → is_next_in_use log ≡ false
 free log good few =
     let all = all-both (first_of log) (taken_count log) (number_of (probe log)) (numbers (relays log)) (probe-taken log) (relays-taken log) in
     ap (λ n. list_any (λ k. k == n) (numbers_in_use log)) (number-is log) ∙ none_next (first_of log) (taken_count log) (numbers_in_use log) good few all
@@ -372,13 +372,21 @@ good-opened (Health now) well = absurd cc
 good-opened (Pulls now peer) well = absurd cc
 good-opened (Leave now words) well = absurd cc
 
--- After an accepted list of events the next number isn't in use.
-pub next_is_free : (f : List Event) → is_accepted f ≡ true → is_next_in_use (log_of (reverse f)) ≡ false
-next_is_free [] accepted = refl
-next_is_free (x ∷ f) accepted =
+-- An accepted list leaves numbers that weren't taken.
+abbrev pub HasMore : Log → Type 0
+HasMore log = (first_of log ≤ highest_number) × (taken_count log < highest_number)
+
+pub has_more : (x : Event) (f : List Event) → is_accepted (x ∷ f) ≡ true → HasMore (log_of (reverse (x ∷ f)))
+has_more x f accepted =
     let b = begun x f accepted in
     let log : Log = log_of (reverse (x ∷ f)) in
     let opened : configuration log ≡ configuration (step x []) =
-    ap (λ (past : List Event). configuration (log_of past)) (reverse-append (x ∷ []) f) ∙ configuration-past (reverse f) x (none-reverse f b.shut) in
-    free log (subst (λ (o : Option Config). first_in o ≤ highest_number) (sym opened) (good-opened x b.opens))
-    (omega (arith, count-log_of (reverse (x ∷ f)), length-reverse (x ∷ f), b.few))
+    ap (λ (past : List Event). configuration (log_of past)) (reverse-append (x ∷ []) f) ∙ configuration-past (reverse f) x (none-reverse f b.shut) in (
+      subst (λ (o : Option Config). first_in o ≤ highest_number) (sym opened) (good-opened x b.opens),
+      omega (arith, count-log_of (reverse (x ∷ f)), length-reverse (x ∷ f), b.few),
+    )
+
+-- After an accepted list of events the next number isn't in use.
+pub next_is_free : (f : List Event) → is_accepted f ≡ true → is_next_in_use (log_of (reverse f)) ≡ false
+next_is_free [] accepted = refl
+next_is_free (x ∷ f) accepted = let more = has_more x f accepted in free (log_of (reverse (x ∷ f))) more.0 more.1

@@ -7,7 +7,8 @@
 //! Defined in: `specs/Meaning/Step.antt`, `specs/Support/Step.antt`, `specs/Meaning/Window.antt`.
 //! Tested in: `lg_detector_tests/src/detector/open.rt`, `lg_detector_tests/src/detector/copies.rt`.
 ghost use Rattle.std.specs.Prelude.{◌≡◌, ℕ, ◌≤◌, ◌<◌, ◌+◌, ◌++◌, [], ◌∷◌, List, length, reverse};
-ghost use Rattle.std.specs.Prelude.{IfOk, IsTrue, true, false, is_some};
+ghost use Rattle.std.specs.Prelude.{IfOk, IsTrue, true, false, is_some, nat_eq};
+ghost use Rattle.std.specs.List.{IsDistinct};
 ghost use Rattle.std.specs.Option.{option_to_list};
 ghost use Rattle.lg_rules.specs.Meaning.Rows.{name_cmp, is_among};
 ghost use Rattle.lg_probe.specs.Meaning.Order.{window};
@@ -19,7 +20,7 @@ ghost use Rattle.lg_detector.specs.Meaning.Log.{Log};
 ghost use Rattle.lg_detector.specs.Meaning.Probing.{others};
 ghost use Rattle.lg_detector.specs.Meaning.Window.{targets, AreOthers};
 ghost use Rattle.lg_detector.specs.Meaning.Step.{is_accepted, is_open_event, opens_well, begins_open};
-ghost use Rattle.lg_detector.specs.Meaning.Relaying.{is_next_in_use};
+ghost use Rattle.lg_detector.specs.Meaning.Relaying.{is_next_in_use, numbers_in_use};
 ghost use Rattle.lg_detector.specs.Meaning.Step.{log_of, reply_after, deadline_after};
 ghost use Rattle.lg_detector.specs.Meaning.Choice.{choice_of_reply, targets_after};
 ghost use Rattle.lg_detector.specs.Support.Step as state;
@@ -299,10 +300,13 @@ pub fn accepted_lists()
         → is_accepted (Opening now opening ∷ []) ≡ true }
 {}
 
-/// The sequence number that comes next is free. After an accepted list, neither the probe that runs nor an open relay
-/// has it, although the numbers begin anew behind the greatest.
+/// What holds of the sequence numbers in use after an accepted list, although the numbers begin anew behind the
+/// greatest. The number that comes next is free: neither the probe that runs nor an open relay has it. And no number is
+/// in use twice: no open relay has the number of the probe that runs, and no two open relays have the same.
 pub fn numbers_are_free()
-    ensures { (f : List Happened) → is_accepted f ≡ true → is_next_in_use (log_of (reverse f)) ≡ false }
+    ensures next { (f : List Happened) → is_accepted f ≡ true → is_next_in_use (log_of (reverse f)) ≡ false }
+    ensures apart { (f : List Happened) → is_accepted f ≡ true
+        → IsDistinct nat_eq (numbers_in_use (log_of (reverse f))) }
 {}
 
 /// Whom a stretch of rounds chooses (SWIM, section 4.3). Suppose that throughout the stretch the others that aren't

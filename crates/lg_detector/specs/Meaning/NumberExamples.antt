@@ -1,5 +1,7 @@
--- Worked sequence numbers: the configuration says the first one, and behind the greatest comes 1.
-use Rattle.std.specs.Prelude.{◌≡◌, ℕ, false, List, [], ◌∷◌, map, Some, None, refl}
+-- Worked sequence numbers: the configuration says the first one, and behind the greatest comes 1. No number is in use
+-- twice.
+use Rattle.std.specs.Prelude.{◌≡◌, ℕ, false, List, [], ◌∷◌, map, nat_eq, Some, None, refl}
+use Rattle.std.specs.List.{IsDistinct}
 use Rattle.lg_rules.specs.declared.version.Version.TheVariants.{Three}
 use Rattle.lg_timing.specs.Meaning.Config.{defaults}
 use Rattle.lg_timers.specs.declared.timer.TimerId.TheVariants.{RelayNack}
@@ -90,6 +92,10 @@ two_are_in_use : numbers_in_use both_begun ≡ 1 ∷ 4294967295 ∷ []
 unfolding by_computing
 two_are_in_use = refl
 
+the_two_differ : IsDistinct nat_eq (numbers_in_use both_begun)
+unfolding by_computing IsDistinct
+the_two_differ = ((refl, tt), (tt, tt))
+
 the_next_is_another : number both_begun ≡ 2
 unfolding by_computing
 the_next_is_another = refl
@@ -104,3 +110,15 @@ the_lesser_is_first :
     ≡ Some (timer_of 400 (RelayNack 1))
 unfolding by_computing
 the_lesser_is_first = refl
+
+-- Two relays and then a probe take 7, 8 and 9. The probe's number stands first.
+abbrev three_begun : Log
+three_begun = log_after (opening_at 7 ∷ request_for 8 c ∷ request_for 9 d ∷ ticks 0 ∷ [])
+
+three_are_in_use : numbers_in_use three_begun ≡ 9 ∷ 7 ∷ 8 ∷ []
+unfolding by_computing
+three_are_in_use = refl
+
+the_three_differ : IsDistinct nat_eq (numbers_in_use three_begun)
+unfolding by_computing IsDistinct
+the_three_differ = ((refl, (refl, tt)), ((refl, tt), (tt, tt)))
