@@ -38,8 +38,6 @@ pub struct Outgoing {
 impl Default for Outgoing {
     ghost is_default = { λ _. Unit {0} };
 
-    // A row has eight of these. Inlined eight times, they are more code than a processor's instruction cache holds.
-    #[inline(never)]
     fn default() -> Self {
         Outgoing {
             to: Addr::default(),

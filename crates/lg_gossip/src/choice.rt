@@ -32,18 +32,18 @@ pub(crate) struct TakenRow {
 }
 
 /// The buddy of a packet: the record that is to stand first, if there is one and the version can tell its address.
-pub(crate) fn buddy_of(version: Version, first: Option<&Record>) -> Option<Claim>
-    ensures { result ≡ buddy_of version (option_copied first.entry) }
+pub(crate) fn buddy_of(version: Version, first: Option<&Record>) -> Option<&Claim>
+    ensures { option_copied result ≡ buddy_of version (option_copied first.entry) }
 {
     match first {
-        Some(record) if version.tells(&record.addr) => Some(*record),
+        Some(record) if version.tells(&record.addr) => Some(record),
         _ => None,
     }
 }
 
 /// How many claims of the queue a packet of a version can hold beside its buddy.
-fn room_beside(version: Version, buddy: &Option<Claim>) -> usize
-    ensures room { result ≡ room_beside version buddy.now }
+fn room_beside(version: Version, buddy: Option<&Claim>) -> usize
+    ensures room { result ≡ room_beside version (option_copied buddy.entry) }
     ensures some { 0 < result }
     ensures most { result ≤ MAX_CLAIMS }
 {
@@ -54,10 +54,10 @@ fn room_beside(version: Version, buddy: &Option<Claim>) -> usize
 }
 
 /// The index of the row about the buddy's member, or the number of rows if there is no such row.
-fn index_of_buddy(rows: &[Queued], buddy: &Option<Claim>) -> usize
+fn index_of_buddy(rows: &[Queued], buddy: Option<&Claim>) -> usize
     requires { AreInOrder rows.now }
     ensures { (k : ℕ) (d : Row) → k < length rows.now
-        → is_beside buddy.now (slice_index_or rows.now k d) ≡ not (nat_eq k result) }
+        → is_beside (option_copied buddy.entry) (slice_index_or rows.now k d) ≡ not (nat_eq k result) }
 {
     match buddy {
         Some(buddy) => match index_of(rows, &buddy.name) {
@@ -127,7 +127,7 @@ fn rows_by_sets(
     rows: &[Queued],
     sent: &[BitSet; SETS],
     version: Version,
-    buddy: &Option<Claim>,
+    buddy: Option<&Claim>,
     limit: u64,
     fewest: u64,
 ) -> ArrayVec<TakenRow, MAX_CLAIMS>
@@ -137,8 +137,8 @@ fn rows_by_sets(
     requires sets { AreSets sent.now rows.now }
     requires rises { fewest ≤ limit }
     requires few { limit ≤ SETS }
-    ensures taken { HasTaken version buddy.now limit rows.now result.items }
-    ensures few { array_vec_len result ≤ room_beside version buddy.now }
+    ensures taken { HasTaken version (option_copied buddy.entry) limit rows.now result.items }
+    ensures few { array_vec_len result ≤ room_beside version (option_copied buddy.entry) }
 {
     let room = room_beside(version, buddy);
     let passed_over = index_of_buddy(rows, buddy);
@@ -158,12 +158,12 @@ fn rows_by_sets(
 fn rows_by_walk(
     rows: &[Queued],
     version: Version,
-    buddy: &Option<Claim>,
+    buddy: Option<&Claim>,
     limit: u64,
 ) -> ArrayVec<TakenRow, MAX_CLAIMS>
     requires { AreInOrder rows.now }
-    ensures taken { HasTaken version buddy.now limit rows.now result.items }
-    ensures few { array_vec_len result ≤ room_beside version buddy.now }
+    ensures taken { HasTaken version (option_copied buddy.entry) limit rows.now result.items }
+    ensures few { array_vec_len result ≤ room_beside version (option_copied buddy.entry) }
 {
     let mut first = ArrayVec::new();
     let room = room_beside(version, buddy);
@@ -185,7 +185,7 @@ pub(crate) fn rows_taken(
     rows: &[Queued],
     sent: &[BitSet; SETS],
     version: Version,
-    buddy: &Option<Claim>,
+    buddy: Option<&Claim>,
     limit: u64,
     fewest: u64,
 ) -> ArrayVec<TakenRow, MAX_CLAIMS>
@@ -193,8 +193,8 @@ pub(crate) fn rows_taken(
     requires least { AreSent fewest rows.now }
     requires most { length rows.now ≤ MAX_QUEUED }
     requires sets { AreSets sent.now rows.now }
-    ensures taken { HasTaken version buddy.now limit rows.now result.items }
-    ensures few { array_vec_len result ≤ room_beside version buddy.now }
+    ensures taken { HasTaken version (option_copied buddy.entry) limit rows.now result.items }
+    ensures few { array_vec_len result ≤ room_beside version (option_copied buddy.entry) }
 {
     if limit <= fewest {
         // Mostly no row may be sent any more, and then none is looked at.
@@ -221,13 +221,13 @@ fn push_claims(claims: &mut ArrayVec<Claim, MAX_CLAIMS>, rows: &[Queued], taken:
 /// Writes the claims of a packet: its buddy, if it has one, and those that it takes from the queue.
 pub(crate) fn write_claims(
     claims: &mut ArrayVec<Claim, MAX_CLAIMS>,
-    buddy: &Option<Claim>,
+    buddy: Option<&Claim>,
     rows: &[Queued],
     taken: &[TakenRow],
 )
     requires places { AllByRecursion (IsRowOf rows.now) taken.now }
-    requires room { length (option_to_list buddy.now) + length taken.now ≤ MAX_CLAIMS }
-    ensures { claims.new.items ≡ option_to_list buddy.now ++ map queued_claim (rows_at rows.now taken.now) }
+    requires room { length (option_to_list (option_copied buddy)) + length taken.now ≤ MAX_CLAIMS }
+    ensures { claims.new.items ≡ option_to_list (option_copied buddy.entry) ++ map queued_claim (rows_at rows.now taken.now) }
 {
     claims.clear();
     if let Some(buddy) = buddy {
@@ -258,13 +258,13 @@ pub(crate) fn count_sends(rows: &mut [Queued], sent: &mut [BitSet; SETS], taken:
 pub(crate) fn fewest_after(
     taken: &[TakenRow],
     version: Version,
-    buddy: &Option<Claim>,
+    buddy: Option<&Claim>,
     limit: u64,
     fewest: u64,
 ) -> u64
-    ensures { (rows : List Row) → AreInOrder rows → HasTaken version buddy.now limit rows taken.now
+    ensures { (rows : List Row) → AreInOrder rows → HasTaken version (option_copied buddy.entry) limit rows taken.now
         → AreSent fewest rows
-        → AreSent result (map (sent_once (map queued_claim (rows_taken version buddy.now limit rows))) rows) }
+        → AreSent result (map (sent_once (map queued_claim (rows_taken version (option_copied buddy.entry) limit rows))) rows) }
 {
     // Of the row about a buddy's member nothing more is known. And with such a limit no row was taken.
     if buddy.is_some() || limit <= fewest {

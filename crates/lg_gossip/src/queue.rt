@@ -174,6 +174,27 @@ impl Queue {
         ensures claims { claims.new.items ≡ fill_of self.old (option_copied buddy.entry) live }
         ensures queue { self.new ≡ filled self.old (option_copied buddy.entry) live }
     {
+        let limit = send_limit(self.lambda, live);
+        match buddy {
+            // Mostly there is no buddy and no row may be sent any more, and then none is looked at.
+            None if limit <= self.fewest => claims.clear(),
+            _ => self.take_into(buddy, live, claims),
+        }
+    }
+
+    /// The same, whether a row may be sent or not.
+    // Inlined, it would clear places for rows that no packet takes.
+    #[inline(never)]
+    fn take_into(
+        &mut self,
+        buddy: Option<&Record>,
+        live: usize,
+        claims: &mut ArrayVec<Claim, MAX_CLAIMS>,
+    )
+        ensures apart { IsDistinct (is_same name_cmp) (map name_of claims.new.items) }
+        ensures claims { claims.new.items ≡ fill_of self.old (option_copied buddy.entry) live }
+        ensures queue { self.new ≡ filled self.old (option_copied buddy.entry) live }
+    {
         let version = self.version;
         let buddy = buddy_of(version, buddy);
         let limit = send_limit(self.lambda, live);
@@ -181,12 +202,12 @@ impl Queue {
             self.rows.as_slice(),
             &self.sent,
             version,
-            &buddy,
+            buddy,
             limit,
             self.fewest,
         );
-        write_claims(claims, &buddy, self.rows.as_slice(), taken.as_slice());
-        self.fewest = fewest_after(taken.as_slice(), version, &buddy, limit, self.fewest);
+        write_claims(claims, buddy, self.rows.as_slice(), taken.as_slice());
+        self.fewest = fewest_after(taken.as_slice(), version, buddy, limit, self.fewest);
         count_sends(self.rows.as_mut_slice(), &mut self.sent, taken.as_slice());
     }
 

@@ -10,4 +10,5 @@ pub mod Joining
 pub mod RoundLaws
 pub mod OpenRelays
 pub mod RelayLaws
+pub mod UpTo
 pub mod WindowLaws

@@ -5,7 +5,7 @@
 ghost use Rattle.std.specs.Prelude.{◌≡◌, ◌<◌, ◌≤◌, List, [], ◌∷◌, length, None, position};
 ghost use Rattle.lg_probe.specs.Meaning.Relays.{RelayFact, Opened, TargetAcked, Closed, relays_after};
 ghost use Rattle.lg_probe.specs.Meaning.Relays.{AreApart, asker_at, ended_asker, has_number, is_ended, is_open};
-ghost use Rattle.lg_probe.specs.Support.Relays.{relays_with};
+ghost use Rattle.lg_probe.specs.Support.Relays.{AreUpTo, relays_with};
 
 use arrayvec::ArrayVec;
 use lg_rules::{Addr, Name};
@@ -42,6 +42,8 @@ pub struct Relay {
 #[derive(Debug, Drop)]
 pub struct Relays {
     open: ArrayVec<Relay, MAX_RELAYS>,
+    /// No open relay has a greater number, so that a new number needn't be looked for among theirs.
+    greatest: u32,
 }
 
 impl Model for Relays {
@@ -52,9 +54,9 @@ impl Model for Relays {
 
     ghost view = { λ r. r.open.items };
 
-    ghost use Rattle.lg_probe.specs.Meaning.Relays.{AreApart};
+    ghost use Rattle.lg_probe.specs.Support.Relays.{AreKept};
 
-    ghost invariant = { λ r. AreApart r.open.items };
+    ghost invariant = { λ r. AreKept r.greatest r.open.items };
 }
 
 impl Relay {
@@ -83,10 +85,14 @@ fn place_ended(relays: &[Relay], number: u32, sender: &Name) -> Option<usize>
         .position(|relay| relay.is_ended(number, sender))
 }
 
-/// The index of the first relay with this number, if there is one.
-fn place_of(relays: &[Relay], number: u32) -> Option<usize>
+/// The index of the first relay with this number, if there is one. No relay has a number above `greatest`.
+fn place_of(relays: &[Relay], greatest: u32, number: u32) -> Option<usize>
+    requires { AreUpTo greatest relays.now }
     ensures { result ≡ position (has_number number) relays.now }
 {
+    if greatest < number {
+        return None;
+    }
     relays.iter().position(|relay| relay.has_number(number))
 }
 
@@ -97,6 +103,7 @@ impl Relays {
     {
         Relays {
             open: ArrayVec::new(),
+            greatest: 0,
         }
     }
 
@@ -106,7 +113,10 @@ impl Relays {
     {
         let mut open = ArrayVec::new();
         open.try_extend_from_slice(&self.open).unwrap();
-        Relays { open }
+        Relays {
+            open,
+            greatest: self.greatest,
+        }
     }
 
     /// How many relays are open, at most 64.
@@ -143,6 +153,7 @@ impl Relays {
             target: *target,
             asker,
         });
+        self.greatest = self.greatest.max(number);
     }
 
     /// The asker of the open relay with this number, if there is such a relay.
@@ -174,7 +185,7 @@ impl Relays {
         ensures past { (past : List RelayFact) → self.old ≡ relays_after past
             → self.new ≡ relays_after (Closed number ∷ past) }
     {
-        match place_of(self.open.as_slice(), number) {
+        match place_of(self.open.as_slice(), self.greatest, number) {
             Some(place) => {
                 self.open.remove(place);
                 true

@@ -3,6 +3,7 @@ use Rattle.std.specs.Prelude.{List, [], ◌∷◌}
 use Rattle.lg_rules.specs.declared.claim.Claim.{Claim}
 use Rattle.lg_packet.specs.declared.packet.Body.{Body}
 use Rattle.lg_packet.specs.declared.packet.Body.TheVariants.{Ping, PingReq, Ack, Nack, Pull, Page, Gossip}
+use Rattle.lg_packet.specs.declared.packet.Packet.{Packet}
 use Rattle.lg_membership.specs.Meaning.Gossip.{version_sent}
 use Rattle.lg_membership.specs.Support.State.{taken_in, fill_in}
 use Rattle.lg_detector.specs.declared.reply.Outgoing.{Outgoing}
@@ -21,21 +22,28 @@ claims_of_state (Pull after) s = []
 claims_of_state Page s = []
 claims_of_state Gossip s = fill_in Anybody s.membership
 
-abbrev pub outgoing_state : Message → State → Outgoing
-outgoing_state message s =
-    let claims = claims_of_state message.body s in
+-- a packet with the version, the group and the sender of all that this member sends
+abbrev pub headed_state : State → Packet → Packet
+headed_state s packet = record packet {
+  version = version_sent s.membership.config;
+  group = own_group s.membership.config;
+  sender = s.membership.own.name;
+}
+
+-- the packet that is sent with a body
+abbrev pub packet_state : Body → State → Packet
+packet_state body s =
     let version = version_sent s.membership.config in
-    let sender = s.membership.own.name in
     record {
-      to = message.to;
-      packet = record {
-        version = version;
-        group = own_group s.membership.config;
-        sender = sender;
-        body = body_told version message.body;
-        claims = record { items = claims };
-      };
+      version = version;
+      group = own_group s.membership.config;
+      sender = s.membership.own.name;
+      body = body_told version body;
+      claims = record { items = claims_of_state body s };
     }
+
+abbrev pub outgoing_state : Message → State → Outgoing
+outgoing_state message s = record { to = message.to; packet = packet_state message.body s }
 
 abbrev pub send_state : Body → State → State
 send_state (Ping number target) s = send_taken (taken_in (Pinged target) s.membership) s

@@ -191,6 +191,7 @@ impl Detector {
 
     /// Applies the claim of a timer, if it makes one. Overwrites `differing` with the record that changed by it, if one
     /// did.
+    #[inline(never)]
     pub(super) fn say_one(
         &mut self,
         claim: &Option<Claim>,

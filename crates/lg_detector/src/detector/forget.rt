@@ -83,6 +83,7 @@ fn is_among(before: &[Record], current: &Record) -> bool
 impl Detector {
     /// Forgets a member: whatever timers it has are cancelled, nobody chooses it any more, and its name is unknown.
     #[tactic(auto, unfolding(crate::specs::Support::State::forget_name))]
+    #[inline(never)]
     pub(super) fn forget(&mut self, name: &Name)
         ensures { self.new ≡ forget_name name.now self.old }
     {
@@ -166,6 +167,7 @@ impl Detector {
 
     /// The same where a claim may lack room, and for those of a table. A record that was forgotten and came back may be
     /// the one from before, so the records that claims are about are compared with those before all claims.
+    #[inline(never)]
     fn say_in_room(
         &mut self,
         teller: &Option<Name>,

@@ -124,6 +124,7 @@ impl Detector {
     }
 
     /// Gossips: tells the news to the members that the words pick. Overwrites what `sends` held.
+    #[inline(never)]
     pub(super) fn gossip(&mut self, words: &[u32; 8], sends: &mut Sends)
         ensures state { self.new
             ≡ send_all_state (messages_state Gossip words.now self.old) (gossip_fired self.old) }

@@ -41,6 +41,16 @@ pub(super) fn claims_heard<'a>(group: &Option<Name>, packet: &'a Packet) -> &'a 
 }
 
 impl Detector {
+    /// Writes the group that this member belongs to, if it has one.
+    pub(super) fn put_group(&self, group: &mut Option<Name>)
+        ensures { group.new ≡ own_group self.now.membership.config }
+    {
+        match self.parts.membership.config() {
+            Some(config) => *group = config.group,
+            None => *group = None,
+        }
+    }
+
     /// The group that this member belongs to, if it has one.
     pub(super) fn group(&self) -> Option<Name>
         ensures { result ≡ own_group self.now.membership.config }

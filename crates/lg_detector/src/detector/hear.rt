@@ -22,7 +22,6 @@
 //! Tested in: `lg_detector_tests/src/detector/hear.rt`, `lg_detector_tests/src/detector/acks.rt`.
 ghost use Rattle.std.specs.Prelude.{◌≡◌, ◌<◌, ◌≤◌, [], ◌∷◌};
 ghost use Rattle.std.specs.Prelude.{◌==◌, ◌&&◌, None, Some, length, option_map};
-ghost use Rattle.std.specs.Option.{option_to_list};
 ghost use Rattle.lg_rules.specs.Meaning.Rows.{name_cmp, is_same};
 ghost use Rattle.lg_rules.specs.Meaning.View.{changed};
 ghost use Rattle.lg_packet.specs.declared.packet.Body.TheVariants.{Ping, PingReq};
@@ -34,7 +33,8 @@ ghost use Rattle.lg_detector.specs.Meaning.Hear.{pass_on};
 ghost use Rattle.lg_detector.specs.Support.Hear.{answer_state, hear_state, hear_claims_state, note_state};
 ghost use Rattle.lg_detector.specs.Support.Hear.{respond_state};
 ghost use Rattle.lg_detector.specs.Support.Hear.{response_state, sends_of_state, sends_to_state};
-ghost use Rattle.lg_detector.specs.Support.State.{come_state, forgotten_each, hear_ack, hear_nack};
+ghost use Rattle.lg_detector.specs.Support.Send.{outgoing_state, packets_state, send_all_state, send_state};
+ghost use Rattle.lg_detector.specs.Support.State.{come_state, forgotten_each, hear_ack, hear_nack, open_relay};
 ghost use Rattle.lg_detector.specs.Support.Step.{view_state};
 
 use super::group::{claims_heard, is_of_group};
@@ -58,8 +58,22 @@ fn asker_from(sender: &Name, source: Addr, number: u32) -> Asker
     }
 }
 
+/// The Ping of a relay: of a target at the address that the PingReq told, with the relay's number.
+fn relayed_ping(number: u32, target: &Name, addr: Addr) -> Message
+    ensures { result ≡ record { to = addr; body = Ping number target.now } }
+{
+    Message {
+        to: addr,
+        body: Body::Ping {
+            number,
+            target: *target,
+        },
+    }
+}
+
 impl Detector {
     /// Hears a packet from a source: applies its claims, and handles its body.
+    #[inline(never)]
     pub(super) fn hear(&mut self, now: Moment, source: Addr, packet: &Packet, reply: &mut Reply)
         requires { self.old.events < MAX_EVENTS }
         ensures state { self.new ≡ hear_state now source packet.now self.old }
@@ -129,39 +143,27 @@ impl Detector {
         ensures sends { sends.new.items ≡ sends_of_state source packet.now packet.now.body self.old }
     {
         match &packet.body {
-            Body::Ping { .. } | Body::PingReq { .. } | Body::Ack { .. } | Body::Nack { .. } => {
-                let message = self.respond(source, &packet.sender, &packet.body);
-                self.send_one(&message, sends);
+            Body::Ping { number, target } => {
+                self.answer_ping(&asker_from(&packet.sender, source, *number), target, sends)
+            }
+            Body::PingReq {
+                number,
+                target,
+                addr,
+            } => {
+                let asker = asker_from(&packet.sender, source, *number);
+                self.answer_request(&asker, target, *addr, sends);
+            }
+            Body::Ack { number, .. } => self.answer_ack(*number, &packet.sender, sends),
+            Body::Nack { number, .. } => {
+                self.hear_nack(*number, &packet.sender);
+                sends.clear();
             }
             Body::Pull { after } => self.send_page(source, after, sends),
             Body::Page => {
                 self.send_next_pull(source, packet.version, packet.claims.as_slice(), sends)
             }
             Body::Gossip => sends.clear(),
-        }
-    }
-
-    /// Notes what a body means for the probe that runs and for the relays. Returns the packet that responds to it, if
-    /// there is one.
-    fn respond(&mut self, source: Addr, sender: &Name, body: &Body) -> Option<Message>
-        ensures state { self.new ≡ note_state source sender.now body.now self.old }
-        ensures message { option_to_list result ≡ response_state source sender.now body.now self.old }
-    {
-        match body {
-            Body::Ping { number, target } => {
-                self.hear_ping(&asker_from(sender, source, *number), target)
-            }
-            Body::PingReq {
-                number,
-                target,
-                addr,
-            } => self.hear_request(&asker_from(sender, source, *number), target, *addr),
-            Body::Ack { number, .. } => self.hear_ack(*number, sender),
-            Body::Nack { number, .. } => {
-                self.hear_nack(*number, sender);
-                None
-            }
-            Body::Pull { .. } | Body::Page | Body::Gossip => None,
         }
     }
 
@@ -172,48 +174,75 @@ impl Detector {
         name.cmp(&self.name()).is_eq()
     }
 
-    /// Acks a Ping for this member.
-    fn hear_ping(&self, asker: &Asker, target: &Name) -> Option<Message>
-        ensures { let asker = asker.now in option_to_list result
-            ≡ response_state asker.addr asker.name (Ping asker.number target.now) self.now }
+    /// Acks a Ping for this member. Overwrites what `sends` held.
+    fn answer_ping(&mut self, asker: &Asker, target: &Name, sends: &mut Sends)
+        ensures state { let asker = asker.now in self.new
+            ≡ respond_state asker.addr asker.name (Ping asker.number target.now) self.old }
+        ensures sends { let asker = asker.now in sends.new.items
+            ≡ packets_state (response_state asker.addr asker.name (Ping asker.number target.now) self.old) self.old }
     {
         if self.is_own(target) {
-            Some(relay::ack_to(asker))
+            self.send(&relay::ack_to(asker), sends);
         } else {
-            None
+            sends.clear();
         }
     }
 
     /// Acks a PingReq for this member. One for another member is relayed, or refused if as many relays are open as
-    /// are allowed.
-    fn hear_request(&mut self, asker: &Asker, target: &Name, addr: Addr) -> Option<Message>
+    /// are allowed. Overwrites what `sends` held.
+    #[inline(never)]
+    fn answer_request(&mut self, asker: &Asker, target: &Name, addr: Addr, sends: &mut Sends)
         ensures state { let asker = asker.now in self.new
-            ≡ note_state asker.addr asker.name (PingReq asker.number target.now addr) self.old }
-        ensures message { let asker = asker.now in option_to_list result
-            ≡ response_state asker.addr asker.name (PingReq asker.number target.now addr) self.old }
+            ≡ respond_state asker.addr asker.name (PingReq asker.number target.now addr) self.old }
+        ensures sends { let asker = asker.now in sends.new.items
+            ≡ packets_state (response_state asker.addr asker.name (PingReq asker.number target.now addr) self.old)
+            (note_state asker.addr asker.name (PingReq asker.number target.now addr) self.old) }
     {
         if self.is_own(target) {
-            return Some(relay::ack_to(asker));
+            self.send(&relay::ack_to(asker), sends);
+        } else if self.parts.relays.len() == MAX_RELAYS {
+            self.send(&relay::nack_of(asker), sends);
+        } else {
+            self.relay_ping(asker, target, addr, sends);
         }
-        if self.parts.relays.len() == MAX_RELAYS {
-            return Some(relay::nack_of(asker));
-        }
-        let relayed = self.parts.number;
-        self.open_relay(target, asker);
-        Some(Message {
-            to: addr,
-            body: Body::Ping {
-                number: relayed,
-                target: *target,
-            },
-        })
     }
 
-    /// Takes an Ack: for the probe that runs, or for a relay, whose asker then gets an Ack.
+    /// Opens a relay, and pings its target at this address. Overwrites what `sends` held.
+    fn relay_ping(&mut self, asker: &Asker, target: &Name, addr: Addr, sends: &mut Sends)
+        requires { length self.old.relays < MAX_RELAYS }
+        ensures state { self.new
+            ≡ send_state (Ping self.old.number target.now) (open_relay target.now asker.now self.old) }
+        ensures sends { sends.new.items
+            ≡ outgoing_state (record { to = addr; body = Ping self.old.number target.now })
+            (open_relay target.now asker.now self.old) ∷ [] }
+    {
+        let number = self.parts.number;
+        self.open_relay(target, asker);
+        self.send(&relayed_ping(number, target, addr), sends);
+    }
+
+    /// Takes an Ack: for the probe that runs, or for a relay, whose asker then gets an Ack. Overwrites what `sends`
+    /// held.
+    #[inline(never)]
+    fn answer_ack(&mut self, number: u32, sender: &Name, sends: &mut Sends)
+        ensures state { self.new
+            ≡ send_all_state (pass_on (ended_asker number sender.now self.old.relays))
+            (hear_ack number sender.now self.old) }
+        ensures sends { sends.new.items
+            ≡ packets_state (pass_on (ended_asker number sender.now self.old.relays))
+            (hear_ack number sender.now self.old) }
+    {
+        match self.hear_ack(number, sender) {
+            Some(asker) => self.send(&relay::ack_to(&asker), sends),
+            None => sends.clear(),
+        }
+    }
+
+    /// Takes an Ack: for the probe that runs, or for a relay, which is closed. Returns the asker of that relay.
     #[tactic(auto, unfolding(crate::specs::Support::State::hear_ack))]
-    fn hear_ack(&mut self, number: u32, sender: &Name) -> Option<Message>
+    fn hear_ack(&mut self, number: u32, sender: &Name) -> Option<Asker>
         ensures state { self.new ≡ hear_ack number sender.now self.old }
-        ensures message { option_to_list result ≡ pass_on (ended_asker number sender.now self.old.relays) }
+        ensures asker { result ≡ ended_asker number sender.now self.old.relays }
     {
         let parts = &mut *self.parts;
         round::take_ack(
@@ -223,7 +252,7 @@ impl Detector {
             number,
             sender,
         );
-        relay::pass_on(&relay::take_ack(&mut parts.relays, &mut parts.timers, number, sender))
+        relay::take_ack(&mut parts.relays, &mut parts.timers, number, sender)
     }
 
     /// Takes a Nack, for the probe that runs.

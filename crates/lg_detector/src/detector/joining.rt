@@ -35,6 +35,7 @@ impl Detector {
     }
 
     /// Answers a Pull: sends the next records after its name to where it came from.
+    #[inline(never)]
     pub(super) fn send_page(&self, to: Addr, after: &Option<Name>, sends: &mut Sends)
         ensures { sends.new.items ≡ page_behind_state to after.now self.now ∷ [] }
     {
@@ -44,6 +45,7 @@ impl Detector {
     }
 
     /// Answers a Page of a version if it is full: asks for the records after its last claim.
+    #[inline(never)]
     pub(super) fn send_next_pull(
         &self,
         to: Addr,
@@ -73,9 +75,7 @@ impl Detector {
         ensures { place.new ≡ page_behind_state to after.now self.now }
     {
         place.to = to;
-        place.packet.version = self.version();
-        place.packet.group = self.group();
-        place.packet.sender = self.name();
+        self.put_head(&mut place.packet);
         place.packet.body = Body::Page;
         self.parts
             .membership
@@ -87,12 +87,10 @@ impl Detector {
     pub(super) fn write_own(&self, to: Addr, body: Body, place: &mut Outgoing)
         ensures { place.new ≡ own_packet_state to body self.now }
     {
-        let version = self.version();
         place.to = to;
-        place.packet.version = version;
-        place.packet.group = self.group();
-        place.packet.sender = self.name();
+        self.put_head(&mut place.packet);
         place.packet.body = body;
+        let version = place.packet.version;
         let claims = &mut place.packet.claims;
         claims.clear();
         // Taken apart, since the checker doesn't follow a whole record into a generic call.

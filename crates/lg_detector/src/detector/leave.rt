@@ -51,6 +51,7 @@ fn drop_probe(timers: &mut Timers, probes: bool, later: u64)
 
 impl Detector {
     /// This member leaves its group. It tells some members of it, unless it had left before.
+    #[inline(never)]
     pub(super) fn leave(&mut self, now: Moment, words: &[u32; 8], reply: &mut Reply)
         requires { self.old.events < MAX_EVENTS }
         ensures state { self.new ≡ leave_state now self.old }

@@ -30,6 +30,7 @@ fn alive(seed: &Seed) -> Claim
 
 impl Detector {
     /// Opens the detector, and applies the claims of its seeds.
+    #[inline(never)]
     pub(super) fn open_with(&mut self, now: Moment, config: &Config, reply: &mut Reply)
         requires room { self.old.events < MAX_EVENTS }
         requires good { IsChecked config.now }

@@ -9,7 +9,6 @@
 //! Defined in: `specs/Meaning/Relaying.antt`, `specs/Support/State.antt`, `specs/Meaning/Timing.antt`.
 //! Tested in: `lg_detector_tests/src/detector/relaying.rt`.
 ghost use Rattle.std.specs.Prelude.{◌≡◌, ◌<◌, ◌≤◌, ◌+◌};
-ghost use Rattle.std.specs.Option.{option_to_list};
 ghost use Rattle.std.specs.Prelude.{[], ◌∷◌, length, option_copied, is_some};
 ghost use Rattle.lg_timers.specs.Meaning.Timers.{with_timer, without_timer};
 ghost use Rattle.lg_probe.specs.Meaning.Relays.{asker_at, ended_asker, TargetAcked};
@@ -17,13 +16,15 @@ ghost use Rattle.lg_probe.specs.Support.Relays.{relays_with};
 ghost use Rattle.lg_membership.specs.Support.Reached.{IsGood};
 ghost use Rattle.lg_detector.specs.Meaning.Timing.{nack_time, relay_time};
 ghost use Rattle.lg_detector.specs.Meaning.Tick.{nack_to};
-ghost use Rattle.lg_detector.specs.Meaning.Hear.{ack_to, nack_of, pass_on};
+ghost use Rattle.lg_detector.specs.Meaning.Hear.{ack_to, nack_of};
 ghost use Rattle.lg_detector.specs.Support.State.{close_relay, open_relay, with_relay, without_relay, without_ended};
 ghost use Rattle.lg_detector.specs.Support.State.{nack_relay};
+ghost use Rattle.lg_detector.specs.Support.Send.{packets_state, send_all_state};
 
 use super::Detector;
 use super::numbers::next_number;
 use crate::message::Message;
+use crate::sends::Sends;
 use lg_packet::Body;
 use lg_probe::{Asker, MAX_RELAYS, Relays};
 use lg_rules::Name;
@@ -122,26 +123,6 @@ pub(super) fn nack_of(asker: &Asker) -> Message
     }
 }
 
-/// The Ack that is passed on to an asker when its target acked.
-pub(super) fn pass_on(asker: &Option<Asker>) -> Option<Message>
-    ensures { option_to_list result ≡ pass_on asker.now }
-{
-    match asker {
-        Some(asker) => Some(ack_to(asker)),
-        None => None,
-    }
-}
-
-/// The Nack that an asker gets when no Ack has come so far.
-fn nack_to(asker: &Option<Asker>) -> Option<Message>
-    ensures { option_to_list result ≡ nack_to asker.now }
-{
-    match asker {
-        Some(asker) => Some(nack_of(asker)),
-        None => None,
-    }
-}
-
 impl Detector {
     /// Opens a relay to a target, for an asker. It takes the next sequence number. An earlier relay that still has that
     /// number is closed, since the numbers begin anew behind the greatest.
@@ -161,17 +142,33 @@ impl Detector {
         parts.number = next_number(parts.number);
     }
 
-    /// Returns the Nack for the asker of a relay, since no Ack has come so far. The relay stays open.
-    pub(super) fn nack_relay(&mut self, number: u32) -> Option<Message>
+    /// Sends the asker of a relay a Nack, since no Ack has come so far. The relay stays open. Overwrites what `sends`
+    /// held.
+    #[inline(never)]
+    pub(super) fn send_nack(&mut self, number: u32, sends: &mut Sends)
+        ensures state { self.new
+            ≡ send_all_state (nack_to (asker_at number self.old.relays)) (nack_relay number self.old) }
+        ensures sends { sends.new.items
+            ≡ packets_state (nack_to (asker_at number self.old.relays)) (nack_relay number self.old) }
+    {
+        match self.nack_relay(number) {
+            Some(asker) => self.send(&nack_of(&asker), sends),
+            None => sends.clear(),
+        }
+    }
+
+    /// Returns the asker of a relay, which is to get its Nack. The relay stays open.
+    fn nack_relay(&mut self, number: u32) -> Option<Asker>
         ensures state { self.new ≡ nack_relay number self.old }
-        ensures message { option_to_list result ≡ nack_to (asker_at number self.old.relays) }
+        ensures asker { result ≡ asker_at number self.old.relays }
     {
         let parts = &mut *self.parts;
         parts.timers.cancel(&TimerId::RelayNack(number));
-        nack_to(&parts.relays.get(number))
+        parts.relays.get(number)
     }
 
     /// Closes a relay.
+    #[inline(never)]
     pub(super) fn close_relay(&mut self, number: u32)
         ensures { self.new ≡ close_relay number self.old }
     {

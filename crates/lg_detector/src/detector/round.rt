@@ -15,12 +15,12 @@ ghost use Rattle.std.specs.Prelude.{◌≡◌, ◌<◌, ◌≤◌, ◌+◌, []};
 ghost use Rattle.std.specs.Prelude.{◌∷◌, Some, length, option_copied, option_map};
 ghost use Rattle.std.specs.Option.{option_to_list};
 ghost use Rattle.lg_probe.specs.Meaning.Round.{Asked, Acked, Nacked, round_with};
-ghost use Rattle.lg_timers.specs.declared.timer.TimerId.TheVariants.{Direct};
+ghost use Rattle.lg_timers.specs.declared.timer.TimerId.TheVariants.{Direct, RoundStart};
 ghost use Rattle.lg_membership.specs.Meaning.Gossip.{version_sent};
 ghost use Rattle.lg_membership.specs.Support.Reached.{IsGood};
 ghost use Rattle.lg_detector.specs.Meaning.Timing.{scaled_interval, scaled_timeout, is_first};
 ghost use Rattle.lg_detector.specs.Meaning.Probing.{asked_about, indirect_in};
-ghost use Rattle.lg_detector.specs.Meaning.Tick.{ping_at, ping_to, request_to, requests, requests_of};
+ghost use Rattle.lg_detector.specs.Meaning.Tick.{ping_at, request_to, requests, requests_of};
 ghost use Rattle.lg_detector.specs.Meaning.Tick.{failure_of, suspect_of, accusation, found};
 ghost use Rattle.lg_detector.specs.Support.State.{start_round, ask_helpers, end_round, chosen_state, helpers_state};
 ghost use Rattle.lg_detector.specs.Support.State.{choice_unless, chose_unless, with_start};
@@ -190,19 +190,16 @@ fn ask(round: &mut Option<Round>, helpers: &Helpers)
 }
 
 /// The Ping of a member at the address of its record, with this sequence number.
-fn ping(number: u32, current: &Option<Record>) -> Option<Message>
-    ensures { option_to_list result ≡ ping_at number current.now }
+fn ping(number: u32, target: &Record) -> Message
+    ensures { result ∷ [] ≡ ping_at number (Some target.now) }
 {
-    let Some(current) = current else {
-        return None;
-    };
-    Some(Message {
-        to: current.addr,
+    Message {
+        to: target.addr,
         body: Body::Ping {
             number,
-            target: current.name,
+            target: target.name,
         },
-    })
+    }
 }
 
 /// The PingReq that asks a helper to ping a target at the address of the target's record.
@@ -262,15 +259,32 @@ impl Detector {
         }
     }
 
-    /// Starts a round. Returns the Ping of the member that it chooses.
-    pub(super) fn start_round(&mut self, words: &[u32; 8]) -> Option<Message>
-        ensures state { self.new ≡ start_round words.now self.old }
-        ensures message { option_to_list result
-            ≡ ping_to self.old.number (view_state self.old) (chosen_state words.now self.old) }
+    /// Starts a round, and pings the member that it chooses. Overwrites what `sends` held.
+    #[inline(never)]
+    pub(super) fn start_round(&mut self, words: &[u32; 8], sends: &mut Sends)
+        ensures state { self.new
+            ≡ send_all_state (messages_state RoundStart words.now self.old) (start_round words.now self.old) }
+        ensures sends { sends.new.items
+            ≡ packets_state (messages_state RoundStart words.now self.old) (start_round words.now self.old) }
     {
         let number = self.parts.number;
-        let target = self.choose(words)?;
-        ping(number, &self.record_of(&target))
+        match self.choose(words) {
+            Some(target) => self.send_ping(number, &target, sends),
+            None => sends.clear(),
+        }
+    }
+
+    /// Pings a member with this sequence number, if it has a record. Overwrites what `sends` held.
+    fn send_ping(&mut self, number: u32, target: &Name, sends: &mut Sends)
+        ensures state { self.new
+            ≡ send_all_state (ping_at number (found target.now (view_state self.old))) self.old }
+        ensures sends { sends.new.items
+            ≡ packets_state (ping_at number (found target.now (view_state self.old))) self.old }
+    {
+        match self.record_of(target) {
+            Some(record) => self.send(&ping(number, &record), sends),
+            None => sends.clear(),
+        }
     }
 
     /// Lets the order choose, unless this member has left, and sets the timers of the round anew.
@@ -293,6 +307,7 @@ impl Detector {
 
     /// Picks helpers and asks them, in the order in which they were picked. After that no more are asked. Overwrites
     /// what `sends` held.
+    #[inline(never)]
     pub(super) fn ask_helpers(&mut self, words: &[u32; 8], sends: &mut Sends)
         ensures state { self.new
             ≡ send_all_state (messages_state Direct words.now self.old) (ask_helpers words.now self.old) }

@@ -7,20 +7,21 @@
 //!
 //! Defined in: `specs/Meaning/Send.antt`, `specs/Support/Send.antt`.
 //! Tested in: `lg_news_tests/src/sending.rt`.
-ghost use Rattle.std.specs.Prelude.{◌≡◌, []};
-ghost use Rattle.std.specs.Option.{option_to_list};
+ghost use Rattle.std.specs.Prelude.{◌≡◌, [], ◌∷◌};
 ghost use Rattle.lg_membership.specs.Meaning.Gossip.{version_sent};
 ghost use Rattle.lg_rules.specs.declared.version.Version.TheVariants.{One, Two};
 ghost use Rattle.lg_detector.specs.Meaning.Send.{acked_one, body_told};
-ghost use Rattle.lg_detector.specs.Support.Send.{outgoing_state, packets_state, send_state, send_all_state};
+ghost use Rattle.lg_detector.specs.Support.Send.{claims_of_state, headed_state, outgoing_state, packet_state};
+ghost use Rattle.lg_detector.specs.Support.Send.{send_state};
 
 use super::Detector;
 use crate::message::Message;
 use crate::reply::Outgoing;
 use crate::sends::{Sends, make_slots};
+use arrayvec::ArrayVec;
 use lg_membership::Addressee;
-use lg_packet::Body;
-use lg_rules::{Name, Version};
+use lg_packet::{Body, Packet};
+use lg_rules::{Claim, MAX_CLAIMS, Name, Version};
 
 /// Leaves out the receiver of a body, if it has one.
 fn leave_out_receiver(body: &mut Body)
@@ -56,19 +57,15 @@ fn acked_one(receiver: &Option<Name>) -> Addressee
 }
 
 impl Detector {
-    /// Sends one packet, or none. Overwrites what `sends` held.
-    pub(super) fn send_one(&mut self, message: &Option<Message>, sends: &mut Sends)
-        ensures state { self.new ≡ send_all_state (option_to_list message.now) self.old }
-        ensures sends { sends.new.items ≡ packets_state (option_to_list message.now) self.old }
+    /// Sends one packet. Overwrites what `sends` held.
+    #[inline]
+    pub(super) fn send(&mut self, message: &Message, sends: &mut Sends)
+        ensures state { self.new ≡ send_state message.now.body self.old }
+        ensures sends { sends.new.items ≡ outgoing_state message.now self.old ∷ [] }
     {
-        match message {
-            Some(message) => {
-                make_slots(&mut sends.slots, 1);
-                self.put_packet(message, &mut sends.slots[0]);
-                sends.count = 1;
-            }
-            None => sends.clear(),
-        }
+        make_slots(&mut sends.slots, 1);
+        self.put_packet(message, &mut sends.slots[0]);
+        sends.count = 1;
     }
 
     /// The version of all that this member sends.
@@ -78,20 +75,45 @@ impl Detector {
         self.parts.membership.version()
     }
 
+    /// Writes the version, the group and the sender of a packet.
+    pub(super) fn put_head(&self, packet: &mut Packet)
+        ensures { packet.new ≡ headed_state self.now packet.old }
+    {
+        packet.version = self.version();
+        self.put_group(&mut packet.group);
+        packet.sender = self.name();
+    }
+
     /// Overwrites a packet. The claims that it takes of the queue count as sent.
+    #[inline]
     pub(super) fn put_packet(&mut self, message: &Message, place: &mut Outgoing)
         ensures state { self.new ≡ send_state message.now.body self.old }
         ensures sent { place.new ≡ outgoing_state message.now self.old }
     {
-        let version = self.version();
         place.to = message.to;
-        place.packet.version = version;
-        place.packet.group = self.group();
-        place.packet.sender = self.name();
         place.packet.body = message.body;
-        keep_told(version, &mut place.packet.body);
-        let claims = &mut place.packet.claims;
-        match &message.body {
+        self.fill_packet(&mut place.packet);
+    }
+
+    /// Writes what a packet tells beside its body, and leaves out of that what its version doesn't tell. The claims
+    /// that it takes of the queue count as sent.
+    // Inlined, it would clear places for all kinds of bodies in each function that sends one.
+    #[inline(never)]
+    fn fill_packet(&mut self, packet: &mut Packet)
+        ensures state { self.new ≡ send_state packet.old.body self.old }
+        ensures packet { packet.new ≡ packet_state packet.old.body self.old }
+    {
+        self.put_head(packet);
+        self.fill_claims(&packet.body, &mut packet.claims);
+        keep_told(packet.version, &mut packet.body);
+    }
+
+    /// Overwrites claims with those of the queue that a packet with this body takes. They count as sent.
+    fn fill_claims(&mut self, body: &Body, claims: &mut ArrayVec<Claim, MAX_CLAIMS>)
+        ensures state { self.new ≡ send_state body.now self.old }
+        ensures claims { claims.new.items ≡ claims_of_state body.now self.old }
+    {
+        match body {
             Body::Ping { target, .. } => self
                 .parts
                 .membership

@@ -25,8 +25,10 @@ ghost use Rattle.std.specs.Prelude.{◌≡◌, ◌<◌, ◌++◌, None, Some};
 ghost use Rattle.std.specs.Option.{option_to_list};
 ghost use Rattle.arrayvec.specs.ArrayVec.{array_vec_len};
 ghost use Rattle.lg_rules.specs.Meaning.View.{changed};
-ghost use Rattle.lg_detector.specs.Meaning.Tick.{failed_of};
-ghost use Rattle.lg_detector.specs.Support.State.{come_state, forgotten_first, forgotten_id};
+ghost use Rattle.lg_membership.specs.declared.origin.Origin.TheVariants.{Group};
+ghost use Rattle.lg_detector.specs.Meaning.Tick.{failed_of, failure_of, found};
+ghost use Rattle.lg_detector.specs.Support.State.{apply_all_state, come_state, end_round, forgotten_first};
+ghost use Rattle.lg_detector.specs.Support.State.{forgotten_id};
 ghost use Rattle.lg_detector.specs.Support.Step.{view_state};
 ghost use Rattle.lg_detector.specs.Support.Tick.{due_state, expire_sends_state, expire_state, sends_at_state};
 ghost use Rattle.lg_detector.specs.Support.Tick.{tick_state};
@@ -64,6 +66,7 @@ pub(super) fn put_forgotten(id: &TimerId, forgotten: &mut ArrayVec<Name, MAX_FOR
 
 impl Detector {
     /// Time has passed: fires the first of the timers that are due.
+    #[inline(never)]
     pub(super) fn tick(&mut self, now: Moment, words: &[u32; 8], reply: &mut Reply)
         requires { self.old.events < MAX_EVENTS }
         ensures state { self.new ≡ tick_state now words.now self.old }
@@ -99,6 +102,30 @@ impl Detector {
         self.parts.timers.due(self.parts.moment)
     }
 
+    /// Ends the round that runs. If no Ack counted, its target is suspected. Overwrites `differing` with the record that
+    /// changed by that, if one did.
+    #[inline(never)]
+    fn close_round(&mut self, differing: &mut ArrayVec<Record, MAX_CHANGED>)
+        ensures state { let s = self.old in self.new
+            ≡ apply_all_state Group (failure_of s.membership.own.name s.round (view_state s)) (end_round s) }
+        ensures differing { differing.new.items ≡ changed (view_state self.old) (view_state self.new) }
+    {
+        let claim = self.failure();
+        self.end_round();
+        self.say_one(&claim, differing);
+    }
+
+    /// A member's suspicion has run out: it has failed. Overwrites `differing` with its record, if that changed.
+    #[inline(never)]
+    fn fail_member(&mut self, member: &Name, differing: &mut ArrayVec<Record, MAX_CHANGED>)
+        ensures state { let rows = view_state self.old in self.new
+            ≡ apply_all_state Group (failed_of (found member.now rows)) self.old }
+        ensures differing { differing.new.items ≡ changed (view_state self.old) (view_state self.new) }
+    {
+        let claim = failed_claim(&self.record_of(member));
+        self.say_one(&claim, differing);
+    }
+
     /// Fires a timer. Overwrites `differing` with the records that its claim changed, and `sends` with its packets. A
     /// timer that makes a claim sends nothing.
     #[tactic(auto, unfolding(crate::specs::Support::State::fire_state))]
@@ -118,14 +145,11 @@ impl Detector {
         let _ = &self.parts;
         match &timer.id {
             TimerId::RoundEnd => {
-                let claim = self.failure();
-                self.end_round();
-                self.say_one(&claim, differing);
+                self.close_round(differing);
                 sends.clear();
             }
             TimerId::Suspicion(member) => {
-                let claim = failed_claim(&self.record_of(member));
-                self.say_one(&claim, differing);
+                self.fail_member(member, differing);
                 sends.clear();
             }
             TimerId::Direct => {
@@ -133,9 +157,8 @@ impl Detector {
                 self.ask_helpers(words, sends);
             }
             TimerId::RelayNack(number) => {
-                let nack = self.nack_relay(*number);
                 differing.clear();
-                self.send_one(&nack, sends);
+                self.send_nack(*number, sends);
             }
             TimerId::RelayEnd(number) => {
                 self.close_relay(*number);
@@ -143,9 +166,8 @@ impl Detector {
                 sends.clear();
             }
             TimerId::RoundStart => {
-                let ping = self.start_round(words);
                 differing.clear();
-                self.send_one(&ping, sends);
+                self.start_round(words, sends);
             }
             TimerId::Forget(name) => {
                 self.forget(name);

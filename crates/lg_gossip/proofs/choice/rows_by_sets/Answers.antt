@@ -1,3 +1,4 @@
+use Rattle.std.specs.Prelude.{option_copied}
 use Rattle.std.proofs.Common.{◌+◌, ◌-◌, ◌≡◌, ◌<◌, ◌++◌, length, ap, subst, arith}
 use Rattle.std.proofs.lemmas.List.{length-take}
 use Rattle.lg_bit_set.proofs.TestLaws.{length-flags_by}
@@ -11,7 +12,7 @@ use Rattle.lg_gossip.proofs.choice.rows_by_sets.Goals as goal
 
 pub loop-sends-init : goal.loop-sends-init
 loop-sends-init c = record {
-  taken = taken_none c.args.version c.args.buddy.now c.args.fewest c.args.rows.now c.new-taken.result.items
+  taken = taken_none c.args.version (option_copied c.args.buddy) c.args.fewest c.args.rows.now c.new-taken.result.items
       c.new-taken.ensures c.requires.least;
   few = omega (arith, ap length c.new-taken.ensures);
 }
@@ -31,7 +32,7 @@ loop-sends-preserved c =
     let found = places_of sends c.without-set.result in
     let within : sends < SETS = omega (arith, c.loop-sends-test.true, c.requires.few) in
     record {
-      taken = takes_beside c.args.version c.args.buddy.now c.args.rows.now c.requires.order sends room
+      taken = takes_beside c.args.version (option_copied c.args.buddy) c.args.rows.now c.requires.order sends room
           c.index_of_buddy-passed_over.result taken c.take_sent.new.taken.items c.args.sent.now
           c.index-sent-sends.result c.without-set.result c.room_beside-room.ensures.room within c.requires.sets
           c.index_of_buddy-passed_over.ensures c.loop-sends.invariant.taken c.without-set.ensures
@@ -42,7 +43,7 @@ loop-sends-preserved c =
 -- no further set has a row that is taken
 pub returns-then-len-room-clause-taken : goal.returns-then-len-room-clause-taken
 returns-then-len-room-clause-taken c =
-    let buddy = c.args.buddy.now in
+    let buddy = (option_copied c.args.buddy) in
     let rows = c.args.rows.now in
     let sends = c.loop-sends.sends in
     let now = c.take_sent.new.taken.items in

@@ -1,3 +1,4 @@
+use Rattle.std.specs.Prelude.{option_copied}
 use Rattle.std.proofs.Common.{not, take, inl, inr, ◌∙◌, ap, refl, arith}
 use Rattle.std.specs.Prelude.{filter}
 use Rattle.std.proofs.lemmas.Bool.{eq-eqb, ne_eqb}
@@ -14,7 +15,7 @@ use Rattle.lg_gossip.proofs.choice.rows_by_walk.Goals.{
 
 pub loop-index-preserved : goal.loop-index-preserved
 loop-index-preserved c =
-    let buddy = c.args.buddy.now in
+    let buddy = (option_copied c.args.buddy) in
     let row = c.index-rows-index.result in
     let index = c.loop-index.index in
     let room = c.room_beside-room.result in
@@ -44,7 +45,7 @@ loop-index-preserved c =
 pub returns-clause-taken : goal.returns-clause-taken
 returns-clause-taken c =
     let rows = c.args.rows.now in
-    let p = may_go c.args.buddy.now c.args.limit in
+    let p = may_go (option_copied c.args.buddy) c.args.limit in
     record {
       places = c.loop-index.invariant.places;
       chosen = c.loop-index.invariant.chosen

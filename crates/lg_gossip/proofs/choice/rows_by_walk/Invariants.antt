@@ -1,5 +1,6 @@
+use Rattle.std.specs.Prelude.{option_copied}
 use Rattle.lg_gossip.proofs.Choosing.{IsChosen}
 use Rattle.lg_gossip.proofs.choice.rows_by_walk.Given as goal
 
 abbrev pub invariant-loop-index : goal.invariant-loop-index
-invariant-loop-index l = IsChosen l.buddy l.limit l.room l.rows l.index l.bound l.first.items
+invariant-loop-index l = IsChosen (option_copied l.buddy) l.limit l.room l.rows l.index l.bound l.first.items

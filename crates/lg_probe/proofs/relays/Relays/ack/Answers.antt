@@ -1,11 +1,13 @@
-use Rattle.std.proofs.Common.{not, refl, ap, ◌∙◌, subst, sym}
+use Rattle.std.proofs.Common.{Bool, not, refl, ap, ◌∙◌, subst, sym}
 use Rattle.std.specs.Prelude.{filter, position}
 use Rattle.std.specs.Option.{option_map}
 use Rattle.std.proofs.lemmas.Option.{slice_get_read}
 use Rattle.lg_probe.specs.declared.relays.Relay.{Relay}
-use Rattle.lg_probe.specs.Meaning.Relays.{AreApart, TargetAcked, asker_of, is_ended, ended_asker}
+use Rattle.lg_probe.specs.Support.Relays.{AreKept}
+use Rattle.lg_probe.specs.Meaning.Relays.{TargetAcked, asker_of, is_ended, ended_asker}
 use Rattle.lg_probe.proofs.OpenRelays.{relays_after-push}
-use Rattle.lg_probe.proofs.RelayLaws.{apart-fewer, ended_number, HasOne, has_one, HasNone, has_none}
+use Rattle.lg_probe.proofs.UpTo.{kept-fewer}
+use Rattle.lg_probe.proofs.RelayLaws.{ended_number, HasOne, has_one, HasNone, has_none}
 use Rattle.lg_probe.proofs.relays.Relays.ack.Goals as goal
 
 none : (c : goal.After-from_residual) → HasNone (is_ended c.args.number c.args.sender.now) c.args.self.now
@@ -27,11 +29,13 @@ one :
     → HasOne (is_ended c.args.number c.args.sender.now) c.self.inside.open.items c.in_ok-place.place
 one c =
     let p = is_ended c.args.number c.args.sender.now in
-    has_one p c.args.number c.self.inside.open.items c.in_ok-place.place (ended_number c.args.number c.args.sender.now) c.self.invariant (ap (position p) (sym c.as_slice.ensures.value) ∙ sym c.place_ended.ensures ∙ c.in_ok-place.was)
+    has_one p c.args.number c.self.inside.open.items c.in_ok-place.place (ended_number c.args.number c.args.sender.now) c.self.invariant.apart (ap (position p) (sym c.as_slice.ensures.value) ∙ sym c.place_ended.ensures ∙ c.in_ok-place.was)
 
 pub invariant_of-self : goal.invariant_of-self
 invariant_of-self c =
-    subst AreApart ((one c).others ∙ sym c.remove-relay.ensures.items) (apart-fewer (λ r. not (is_ended c.args.number c.args.sender.now r)) c.self.inside.open.items c.self.invariant)
+    let left : Relay → Bool = λ r. not (is_ended c.args.number c.args.sender.now r) in
+    let relays = c.self.inside.open.items in
+    subst (AreKept c.self.inside.greatest) ((one c).others ∙ sym c.remove-relay.ensures.items) (kept-fewer left c.self.inside.greatest relays c.self.invariant)
 
 pub returns-clause-asker : goal.returns-clause-asker
 returns-clause-asker c =

@@ -1,19 +1,23 @@
-use Rattle.std.proofs.Common.{not, ap, ◌∙◌, subst, sym}
+use Rattle.std.proofs.Common.{Bool, not, ap, ◌∙◌, subst, sym}
 use Rattle.std.specs.Prelude.{filter, position}
 use Rattle.lg_probe.specs.declared.relays.Relay.{Relay}
-use Rattle.lg_probe.specs.Meaning.Relays.{AreApart, Closed, has_number, is_open}
+use Rattle.lg_probe.specs.Support.Relays.{AreKept}
+use Rattle.lg_probe.specs.Meaning.Relays.{Closed, has_number, is_open}
 use Rattle.lg_probe.proofs.OpenRelays.{relays_after-push}
-use Rattle.lg_probe.proofs.RelayLaws.{apart-fewer, HasOne, has_one, HasNone, has_none}
+use Rattle.lg_probe.proofs.RelayLaws.{HasOne, has_one, HasNone, has_none}
+use Rattle.lg_probe.proofs.UpTo.{kept-fewer}
 use Rattle.lg_probe.proofs.relays.Relays.close.Goals as goal
 
 one : (c : goal.After-remove) → HasOne (has_number c.args.number) c.self.inside.open.items c.in-Some.place
 one c =
     let p = has_number c.args.number in
-    has_one p c.args.number c.self.inside.open.items c.in-Some.place (λ r e. e) c.self.invariant (ap (position p) (sym c.as_slice.ensures.value) ∙ sym c.place_of.ensures ∙ c.in-Some.is)
+    has_one p c.args.number c.self.inside.open.items c.in-Some.place (λ r e. e) c.self.invariant.apart (ap (position p) (sym c.as_slice.ensures.value) ∙ sym c.place_of.ensures ∙ c.in-Some.is)
 
 pub invariant_of-self : goal.invariant_of-self
 invariant_of-self c =
-    subst AreApart ((one c).others ∙ sym c.remove.ensures.items) (apart-fewer (λ r. not (has_number c.args.number r)) c.self.inside.open.items c.self.invariant)
+    let left : Relay → Bool = λ r. not (has_number c.args.number r) in
+    let relays = c.self.inside.open.items in
+    subst (AreKept c.self.inside.greatest) ((one c).others ∙ sym c.remove.ensures.items) (kept-fewer left c.self.inside.greatest relays c.self.invariant)
 
 pub returns-in-Some-clause-was_open : goal.returns-in-Some-clause-was_open
 returns-in-Some-clause-was_open c = sym (ap (is_open c.args.number) (sym c.self.view_is) ∙ (one c).passes)

@@ -4,7 +4,7 @@ use Rattle.lg_detector.specs.Support.Reached.{IsReached}
 use Rattle.lg_membership.specs.declared.addressee.Addressee.TheVariants.{Anybody, Pinged}
 use Rattle.lg_membership.specs.Support.State.{taken_in}
 use Rattle.lg_detector.proofs.Reaching.{reached-send}
-use Rattle.lg_detector.proofs.detector.Detector.put_packet.Goals as goal
+use Rattle.lg_detector.proofs.detector.Detector.fill_claims.Goals as goal
 
 pub invariant_of-self : goal.invariant_of-self
 invariant_of-self c =
