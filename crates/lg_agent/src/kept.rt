@@ -347,9 +347,11 @@ impl<A: AgentName> Kept<A> {
             cut: _,
             name: _,
             history,
-            detector: _,
+            detector,
             feed,
         } = self;
+        // A call of `drop` isn't taken apart field by field, as what is let go at the end is.
+        drop(detector);
         feed.end(rt);
         (history.into_entries(), base, summary)
     }
