@@ -5,7 +5,7 @@ use Rattle.std.specs.List.{prefix_len}
 use Rattle.std.proofs.lemmas.Bool.{cases_Bool, eqb-true, le-ltb}
 use Rattle.lg_probe.specs.declared.relays.Relay.{Relay}
 use Rattle.lg_probe.specs.Meaning.Relays.{has_number}
-use Rattle.lg_probe.specs.Support.Relays.{AreKept, AreUpTo}
+use Rattle.lg_probe.specs.Support.Relays.{AreKeptRelays, AreUpTo}
 use Rattle.lg_probe.proofs.RelayLaws.{apart-fewer}
 
 -- fewer of them
@@ -35,7 +35,7 @@ none_above n number rs less a =
     rw (none_has n number rs less a, le-ltb (length rs) (length rs) (omega arith)) refl
 
 -- What is kept of some relays is kept of fewer.
-pub kept-fewer : (p : Relay → Bool) (n : ℕ) (rs : List Relay) → AreKept n rs → AreKept n (filter p rs)
+pub kept-fewer : (p : Relay → Bool) (n : ℕ) (rs : List Relay) → AreKeptRelays n rs → AreKeptRelays n (filter p rs)
 kept-fewer p n rs kept = record {
   apart = apart-fewer p rs kept.apart;
   up_to = up_to-fewer p n rs kept.up_to;

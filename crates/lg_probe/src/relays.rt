@@ -54,9 +54,9 @@ impl Model for Relays {
 
     ghost view = { λ r. r.open.items };
 
-    ghost use Rattle.lg_probe.specs.Support.Relays.{AreKept};
+    ghost use Rattle.lg_probe.specs.Support.Relays.{AreKeptRelays};
 
-    ghost invariant = { λ r. AreKept r.greatest r.open.items };
+    ghost invariant = { λ r. AreKeptRelays r.greatest r.open.items };
 }
 
 impl Relay {

@@ -15,6 +15,6 @@ abbrev pub AreUpTo : ℕ → List Relay → Type 0
 AreUpTo greatest relays = AllByRecursion (λ r. r.number ≤ greatest) relays
 
 -- no two of them have the same number, and none has one above this one
-pub record AreKept (greatest : ℕ) (relays : List Relay) : Type 0 where
+pub record AreKeptRelays (greatest : ℕ) (relays : List Relay) : Type 0 where
   pub apart : AreApart relays
   pub up_to : AreUpTo greatest relays

@@ -3,7 +3,7 @@ use Rattle.std.specs.Prelude.{filter, position}
 use Rattle.std.specs.Option.{option_map}
 use Rattle.std.proofs.lemmas.Option.{slice_get_read}
 use Rattle.lg_probe.specs.declared.relays.Relay.{Relay}
-use Rattle.lg_probe.specs.Support.Relays.{AreKept}
+use Rattle.lg_probe.specs.Support.Relays.{AreKeptRelays}
 use Rattle.lg_probe.specs.Meaning.Relays.{TargetAcked, asker_of, is_ended, ended_asker}
 use Rattle.lg_probe.proofs.OpenRelays.{relays_after-push}
 use Rattle.lg_probe.proofs.UpTo.{kept-fewer}
@@ -35,7 +35,7 @@ pub invariant_of-self : goal.invariant_of-self
 invariant_of-self c =
     let left : Relay → Bool = λ r. not (is_ended c.args.number c.args.sender.now r) in
     let relays = c.self.inside.open.items in
-    subst (AreKept c.self.inside.greatest) ((one c).others ∙ sym c.remove-relay.ensures.items) (kept-fewer left c.self.inside.greatest relays c.self.invariant)
+    subst (AreKeptRelays c.self.inside.greatest) ((one c).others ∙ sym c.remove-relay.ensures.items) (kept-fewer left c.self.inside.greatest relays c.self.invariant)
 
 pub returns-clause-asker : goal.returns-clause-asker
 returns-clause-asker c =

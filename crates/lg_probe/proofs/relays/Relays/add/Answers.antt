@@ -1,6 +1,6 @@
 use Rattle.std.proofs.Common.{◌≡◌, None, List, [], ◌∷◌, ◌++◌, subst, sym, ap, ◌∙◌, rules}
 use Rattle.lg_probe.specs.declared.relays.Relay.{Relay}
-use Rattle.lg_probe.specs.Support.Relays.{AreKept}
+use Rattle.lg_probe.specs.Support.Relays.{AreKeptRelays}
 use Rattle.lg_probe.proofs.UpTo.{up_to-opened}
 use Rattle.lg_probe.specs.Meaning.Relays.{Opened, asker_at}
 use Rattle.lg_probe.proofs.OpenRelays.{relays_after-push}
@@ -12,7 +12,7 @@ invariant_of-self c =
     let relay : Relay = record { number = c.args.number; target = c.args.target.now; asker = c.args.asker } in
     let free = subst (λ (rs : List Relay). asker_at c.args.number rs ≡ None) (sym c.self.view_is) c.requires.apart in
     let relays = c.self.inside.open.items in
-    subst (AreKept c.max-self-inside.result) (sym c.push.ensures.items) (record {
+    subst (AreKeptRelays c.max-self-inside.result) (sym c.push.ensures.items) (record {
       apart = apart-opened relays relay (none_open c.args.number relays free) c.self.invariant.apart;
       up_to = up_to-opened c.self.inside.greatest c.max-self-inside.result relay relays (search rules) (search rules) c.self.invariant.up_to;
     })

@@ -1,7 +1,7 @@
 use Rattle.std.proofs.Common.{Bool, not, ap, ◌∙◌, subst, sym}
 use Rattle.std.specs.Prelude.{filter, position}
 use Rattle.lg_probe.specs.declared.relays.Relay.{Relay}
-use Rattle.lg_probe.specs.Support.Relays.{AreKept}
+use Rattle.lg_probe.specs.Support.Relays.{AreKeptRelays}
 use Rattle.lg_probe.specs.Meaning.Relays.{Closed, has_number, is_open}
 use Rattle.lg_probe.proofs.OpenRelays.{relays_after-push}
 use Rattle.lg_probe.proofs.RelayLaws.{HasOne, has_one, HasNone, has_none}
@@ -17,7 +17,7 @@ pub invariant_of-self : goal.invariant_of-self
 invariant_of-self c =
     let left : Relay → Bool = λ r. not (has_number c.args.number r) in
     let relays = c.self.inside.open.items in
-    subst (AreKept c.self.inside.greatest) ((one c).others ∙ sym c.remove.ensures.items) (kept-fewer left c.self.inside.greatest relays c.self.invariant)
+    subst (AreKeptRelays c.self.inside.greatest) ((one c).others ∙ sym c.remove.ensures.items) (kept-fewer left c.self.inside.greatest relays c.self.invariant)
 
 pub returns-in-Some-clause-was_open : goal.returns-in-Some-clause-was_open
 returns-in-Some-clause-was_open c = sym (ap (is_open c.args.number) (sym c.self.view_is) ∙ (one c).passes)
