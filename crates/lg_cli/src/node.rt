@@ -1,15 +1,18 @@
-//! The threads of the command `node`: one reads an input until it ends, and one writes for a node that follows. If they
-//! can't be had, that is told.
+//! What the command `node` needs before it is run: the bytes of its file, and its threads. One reads an input until it
+//! ends, and one writes for a node that follows. If they can't be had, that is told.
 //!
 //! Defined in: `lg_run/specs/Meaning/Reporting.antt`.
 //! Tested in: `cases/node.case`, `cases/node_command.case`.
-ghost use Rattle.lg_run.specs.Meaning.Reporting.{TellsLine};
+ghost use Rattle.std.specs.Prelude.{◌≡◌, IfErr, OnOk};
+ghost use Rattle.lg_run.specs.Meaning.Reporting.{TellsLine, TellsNoBytes};
+ghost use Rattle.lg_run.specs.declared.file.NoBytes.{NoBytes};
 
 use crate::output::{Pumped, start_pump};
-use lg_run::Told;
+use lg_run::{Told, file_bytes, tell_no_bytes};
 use lg_text::{FaultStream, report};
 use std::alloc::{AllocError, Global};
 use std::io::{Read, Write};
+use std::rt::Files;
 use std::sync::atomic::{AtomicBool, Ordering};
 use std::sync::{Arc, Wait};
 use std::thread::Threads;
@@ -24,13 +27,75 @@ pub struct Owned<I, O> {
     pub output: O,
 }
 
+/// What the words of the command `node` ask for, but for its end in time.
+#[derive(Clone, Copy, Debug)]
+pub struct NodeWords<'a> {
+    /// The path of its configuration. It may name no file.
+    pub file: &'a str,
+    /// Whether it tells each change of a member as it happens.
+    pub follow: bool,
+    /// Whether it ends once its standard input has ended.
+    pub until_input_ends: bool,
+}
+
+/// What a node is run with.
+#[derive(Drop)]
+pub struct Begun {
+    /// The bytes of its file.
+    pub bytes: Vec<u8>,
+    /// The flag that ends it.
+    pub stop: Arc<AtomicBool, Global>,
+}
+
+/// Gets what a node is run with: first the bytes of its file ([`file_bytes`]), then its stop flag and its threads
+/// ([`stop_flag`]).
+///
+/// If one of them can't be had, that is told, and the `Err` is the exit status: that of [`tell_no_bytes`], or of
+/// [`tell_unstarted`], which is the one for memory. Nothing is written in any case.
+pub fn begin_node<M, I, O, W, F>(
+    rt: &M,
+    words: &NodeWords<'_>,
+    owned: Owned<I, O>,
+    writer: &W,
+    faults: &mut F,
+) -> Result<Begun, u8>
+where
+    M: AllocGlobal + Wait + Threads + Files + Copy + Send + 'static,
+    I: Read + Send + Drop + 'static,
+    O: Write + Send + Drop + 'static,
+    W: Pumped,
+    F: FaultStream,
+    ensures silent { OnOk result (faults.new ≡ faults.old) }
+    ensures told { IfErr result (λ status. (none : NoBytes)
+        × TellsNoBytes (F.reported faults.old) (F.reported faults.new) words.now.file.now none status) }
+{
+    let alloc = rt.alloc();
+    let NodeWords {
+        file,
+        follow,
+        until_input_ends,
+    } = *words;
+    let bytes = match file_bytes(rt, alloc, file) {
+        Ok(bytes) => bytes,
+        Err(none) => {
+            drop(owned);
+            return Err(tell_no_bytes(alloc, file, none, faults));
+        }
+    };
+    let Ok(stop) = stop_flag(rt, alloc, owned, until_input_ends, follow, writer) else {
+        drop(bytes);
+        return Err(tell_unstarted(faults));
+    };
+    Ok(Begun { bytes, stop })
+}
+
 /// The flag that ends a node. If `until_input_ends` is set, the end of the input that is given sets it. A node that
 /// follows writes by a thread of its own, which owns the output that is given ([`start_pump`]) and sees the flag too.
 ///
 /// The input is read by a thread of its own, and what is read is dropped. A read that fails sets the flag too. The
 /// error is that memory or one of these threads was refused. No contract says that the end of the input ends the node,
 /// nor that a node ends whose output takes nothing: none can say what a thread does.
-pub fn stop_flag<M, I, O, W>(
+fn stop_flag<M, I, O, W>(
     rt: &M,
     alloc: Global,
     owned: Owned<I, O>,
@@ -73,7 +138,7 @@ where
 }
 
 /// Tells by [`Told::Memory`] that memory or a thread was refused before a node was run, and gives the status.
-pub fn tell_unstarted<F: FaultStream>(faults: &mut F) -> u8
+fn tell_unstarted<F: FaultStream>(faults: &mut F) -> u8
     ensures { TellsLine (F.reported faults.old) (F.reported faults.new) Told.Memory result }
 {
     report(faults, Told::Memory.line().as_str());

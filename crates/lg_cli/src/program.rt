@@ -8,19 +8,20 @@ ghost use Rattle.std.specs.IoError.{error_kind};
 ghost use Rattle.lg_text.specs.Meaning.Faults.{run_fault_text};
 ghost use Rattle.lg_text.specs.Meaning.Reporting.{Reports};
 ghost use Rattle.lg_commands.specs.Meaning.Timeouts.{are_good};
-ghost use Rattle.lg_command_line.specs.Meaning.Commands.{IfNode, IfTimeouts};
+ghost use Rattle.lg_command_line.specs.Meaning.Commands.{IfAsk, IfCheck, IfNode, IfTimeouts};
 ghost use Rattle.lg_command_line.specs.Support.Requests.{request_of};
 ghost use Rattle.lg_cli.specs.Meaning.Faults.{foreign_text};
 ghost use Rattle.lg_cli.specs.Meaning.Running.{streams, RunsLine, RunsRequest};
 
 use crate::ask::{AskWords, ask_node};
-use crate::node::{Owned, stop_flag, tell_unstarted};
+use crate::node::{NodeWords, Owned, begin_node};
 use crate::output::Pumped;
 use lg_command_line::{Asked, MAX_RUN_MS, take_words};
 use lg_commands::{FAILED, USAGE, answer_named, order_lists, simulate, timeouts_of};
-use lg_run::{Wishes, check_file, file_bytes, run_bytes, tell_no_bytes};
+use lg_run::{Wishes, check_file, run_bytes};
 use lg_text::{FaultStream, RunFault, report};
 use lg_timing::Moment;
+use std::alloc::Global;
 use std::convert::AsStr;
 use std::io::{ErrorKind as IoErrorKind, Read, Write};
 use std::net::Net;
@@ -34,11 +35,11 @@ use std::{io, rt};
 ///
 /// `reader`, `writer` and `faults` stand for standard input, output and error. Only `answer` and `sim` read. `owned`
 /// has standard input and output too, for the threads of `node --until-input-ends` and `node --follow`
-/// ([`stop_flag`]). A line that `faults` doesn't take is dropped.
+/// ([`begin_node`]). A line that `faults` doesn't take is dropped.
 /// `node`, `check`, `members`, `status` and `watch` alone use the machine `rt`. The first two read their file. `node`
 /// takes sockets, a clock and threads, writes its members, and tells its end, with the statuses of [`run_bytes`]. If
-/// its file gives no bytes, it isn't run, and has the status of [`tell_no_bytes`]. If its stop flag can't be had, it
-/// has that of [`tell_unstarted`]. `check` has those of [`check_file`].
+/// its file gives no bytes, or its stop flag can't be had, it isn't run, and has the status of [`begin_node`]. `check`
+/// has those of [`check_file`].
 /// The other three ask a running node, with the statuses of [`tell_answer`](lg_client::tell_answer) and
 /// [`watch_changes`](lg_client::watch_changes). The statuses of all other command lines are:
 ///
@@ -93,26 +94,23 @@ where
         drop(owned);
         return run_other(rt, asked, reader, writer, faults);
     };
-    let bytes = match file_bytes(rt, alloc, file) {
-        Ok(bytes) => bytes,
-        Err(none) => {
-            drop(owned);
-            return tell_no_bytes(alloc, file, none, faults);
-        }
+    let node = NodeWords {
+        file,
+        follow,
+        until_input_ends,
     };
-    let Ok(stop) = stop_flag(rt, alloc, owned, until_input_ends, follow, writer) else {
-        drop(bytes);
-        return tell_unstarted(faults);
+    let begun = match begin_node(rt, &node, owned, writer, faults) {
+        Ok(begun) => begun,
+        Err(status) => return status,
     };
     let wishes = Wishes {
         file,
         until: end_after(for_ms),
         follow,
-        stop: &stop,
+        stop: &begun.stop,
     };
-    let status = run_bytes(rt, alloc, &bytes, &wishes, writer, faults);
-    drop(stop);
-    drop(bytes);
+    let status = run_bytes(rt, alloc, &begun.bytes, &wishes, writer, faults);
+    drop(begun);
     status
 }
 
@@ -138,16 +136,42 @@ where
 {
     let alloc = rt.alloc();
     match asked {
-        Asked::Answer { name } => answer_named(alloc, name, reader, writer, faults),
-        Asked::Order { names, words } => order_lists(alloc, names, words, writer, faults),
-        Asked::Sim => simulate(alloc, reader, writer, faults),
-        Asked::Timeouts { numbers } => timeouts_of(alloc, &numbers, writer, faults),
         Asked::Check { file } => check_file(rt, alloc, file, writer, faults),
         Asked::Ask { question, at, json } => {
             let words = AskWords { question, at, json };
             ask_node(rt, alloc, &words, writer, faults)
         }
-        Asked::Node { .. } => unreachable!(),
+        _ => run_without_machine(alloc, asked, reader, writer, faults),
+    }
+}
+
+/// Runs a command that uses no machine, as [`run_words`] says, and gives its exit status.
+fn run_without_machine<R, W, F>(
+    alloc: Global,
+    asked: Asked<'_>,
+    reader: &mut R,
+    writer: &mut W,
+    faults: &mut F,
+) -> u8
+where
+    R: Read,
+    W: Write,
+    F: FaultStream,
+    requires no_node { IfNode (request_of asked) (λ file for_ms follow until_input_ends. ⊥) }
+    requires no_check { IfCheck (request_of asked) (λ file. ⊥) }
+    requires no_question { IfAsk (request_of asked) (λ question at json. ⊥) }
+    requires good { IfTimeouts (request_of asked) (λ numbers. are_good numbers ≡ true) }
+    ensures { RunsRequest
+        (streams reader.old (R.remaining reader.old) writer.old (W.contents writer.old) (F.reported faults.old))
+        (streams reader.new (R.remaining reader.new) writer.new (W.contents writer.new) (F.reported faults.new))
+        (request_of asked.entry) result }
+{
+    match asked {
+        Asked::Answer { name } => answer_named(alloc, name, reader, writer, faults),
+        Asked::Order { names, words } => order_lists(alloc, names, words, writer, faults),
+        Asked::Sim => simulate(alloc, reader, writer, faults),
+        Asked::Timeouts { numbers } => timeouts_of(alloc, &numbers, writer, faults),
+        Asked::Node { .. } | Asked::Check { .. } | Asked::Ask { .. } => unreachable!(),
     }
 }
 

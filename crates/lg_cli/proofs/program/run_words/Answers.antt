@@ -1,4 +1,4 @@
-use Rattle.std.proofs.Common.{ℕ, Option, inr, refl, subst}
+use Rattle.std.proofs.Common.{ℕ, Option, inr, refl, subst, ◌∙◌}
 use Rattle.lg_run.specs.Meaning.Running.{RunsBytes}
 use Rattle.lg_cli.specs.Meaning.Running.{streams}
 use Rattle.lg_cli.proofs.LineLaws.{same-streams, taken-runs}
@@ -11,17 +11,19 @@ returns g c =
     let reported = g.F.FaultStream.reported in
     let reader = c.args.reader.now in
     let took = c.in-Ok.ensures in
+    let begun = c.begin_node.new.faults in
     let ran = c.run_bytes-status in
     let bytes = c.deref-2.result.now in
     let after = streams reader (remaining reader) ran.new.writer (contents ran.new.writer) (reported ran.new.faults) in
-    let same = same-streams contents reported reader (remaining reader) took.unwritten took.unreported in
+    let unreported = ◌∙◌ {a = begun} c.in-Ok-begin_node.ensures.silent took.unreported in
+    let same = same-streams contents reported reader (remaining reader) {faults' = begun} took.unwritten unreported in
     taken-runs after took.taken took.asked same c.in-Node.is
     (record {
       launched = inr (
         bytes,
         subst (λ (until : Option ℕ). RunsBytes c.take_words.new.writer ran.new.writer
             (contents c.take_words.new.writer) (contents ran.new.writer)
-            (reported c.take_words.new.faults) (reported ran.new.faults)
+            (reported begun) (reported ran.new.faults)
             bytes c.in-Node.file.now until c.in-Node.follow ran.result) c.end_after.ensures ran.ensures,
       );
       unread = refl {a = reader};
