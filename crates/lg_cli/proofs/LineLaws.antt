@@ -1,8 +1,9 @@
 -- A command line that is taken, by what its command did.
-use Rattle.std.proofs.Common.{◌≡◌, ℕ, List, [], Option, inl, ap, sym, ◌∙◌, subst}
+use Rattle.std.proofs.Common.{◌≡◌, ℕ, List, [], Option, inl, inr, ap, sym, ◌∙◌, subst}
 use Rattle.lg_text.specs.Meaning.Reporting.{Reported}
 use Rattle.lg_command_line.specs.declared.asked.Asked.{Asked}
 use Rattle.lg_command_line.specs.Meaning.Commands.{asked, line_faults}
+use Rattle.lg_command_line.specs.Meaning.Leaving.{IsLeft}
 use Rattle.lg_command_line.specs.Support.Requests.{request_of}
 use Rattle.lg_cli.specs.Meaning.Running.{streams, Streams, RunsLine, RunsRequest}
 
@@ -22,3 +23,11 @@ pub taken-runs : {R W : Type 0} (after : Streams R W) {before between : Streams 
 taken-runs after {between = between} {line = line} {status = status} none asks same is run =
     let line_run = subst (λ request. RunsRequest between after request status) (sym (ap request_of is) ∙ asks) run in
     record { taken = λ _. inl (subst (λ before. RunsRequest before after (asked line) status) same line_run); left = λ some. absurd (some none) }
+
+-- A command line that is left, for which nothing was read.
+pub left-runs : {R W : Type 0} (before after : Streams R W) (line : List (List ℕ)) (status : ℕ) → after.reader ≡ before.reader
+    → IsLeft before.writer after.writer before.reported after.reported line status → RunsLine before after line status
+left-runs before after line status unread is = elim is [
+  | inl leaves ↦ record { taken = λ none. absurd (leaves.0 none); left = λ _. inl (unread, leaves.1) }
+  | inr lacks ↦ record { taken = λ _. inr (unread, lacks); left = λ _. inr (unread, lacks) }
+]

@@ -1,8 +1,31 @@
 use Rattle.std.proofs.Common.{ℕ, Option, inr, refl, subst, ◌∙◌}
 use Rattle.lg_run.specs.Meaning.Running.{RunsBytes}
 use Rattle.lg_cli.specs.Meaning.Running.{streams}
-use Rattle.lg_cli.proofs.LineLaws.{same-streams, taken-runs}
+use Rattle.lg_cli.proofs.LineLaws.{left-runs, same-streams, taken-runs}
 use Rattle.lg_cli.proofs.program.run_words.Goals as goal
+
+pub returns-in-Err : goal.returns-in-Err
+returns-in-Err g c =
+    let remaining = g.R.Read.remaining in
+    let contents = g.W.Write.contents in
+    let reported = g.F.FaultStream.reported in
+    let reader = c.args.reader.now in
+    let took = c.take_words.new in
+    let before = streams reader (remaining reader) c.args.writer.now (contents c.args.writer.now) (reported c.args.faults.now) in
+    let after = streams reader (remaining reader) took.writer (contents took.writer) (reported took.faults) in
+    left-runs before after _ c.in-Err.status refl c.in-Err.ensures.left
+
+pub returns-in_default : goal.returns-in_default
+returns-in_default g c =
+    let remaining = g.R.Read.remaining in
+    let contents = g.W.Write.contents in
+    let reported = g.F.FaultStream.reported in
+    let reader = c.args.reader.now in
+    let took = c.in-Ok.ensures in
+    let ran = c.run_other in
+    let after = streams ran.new.reader (remaining ran.new.reader) ran.new.writer (contents ran.new.writer) (reported ran.new.faults) in
+    let same = same-streams contents reported reader (remaining reader) took.unwritten took.unreported in
+    taken-runs after took.taken took.asked same (refl {a = c.in-Ok.asked}) ran.ensures
 
 pub returns : goal.returns
 returns g c =
