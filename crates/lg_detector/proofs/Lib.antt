@@ -25,5 +25,6 @@ pub mod AcceptedLists
 pub mod Deadlines
 pub mod Numbers
 pub mod NumbersApart
+pub mod RoomLaws
 pub mod ChoiceLaws
 pub mod Summaries

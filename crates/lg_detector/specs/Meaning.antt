@@ -13,6 +13,7 @@ pub mod Forget
 pub mod Timing
 -- what is added to a log, and what is sent
 pub mod Apply
+pub mod Room
 pub mod Send
 -- the kinds of event: Hear has Heard, Ask has Ask and Health, Joining has Pull, and Leave has Leave
 pub mod Open

@@ -4,19 +4,25 @@
 //! In a contract `event.now` is the event that `event` refers to. It isn't the event's moment, although the field of
 //! that moment is also called `now`.
 //!
-//! Defined in: `specs/Meaning/Step.antt`, `specs/Support/Step.antt`, `specs/Meaning/Window.antt`.
+//! Defined in: `specs/Meaning/Step.antt`, `specs/Support/Step.antt`, `specs/Meaning/Window.antt`,
+//! `specs/Meaning/Room.antt`.
 //! Tested in: `lg_detector_tests/src/detector/open.rt`, `lg_detector_tests/src/detector/copies.rt`.
 ghost use Rattle.std.specs.Prelude.{◌≡◌, ℕ, ◌≤◌, ◌<◌, ◌+◌, ◌++◌, [], ◌∷◌, List, length, reverse};
 ghost use Rattle.std.specs.Prelude.{IfOk, IsTrue, true, false, is_some, nat_eq};
 ghost use Rattle.std.specs.List.{IsDistinct};
 ghost use Rattle.std.specs.Option.{option_to_list};
+ghost use Rattle.lg_rules.specs.declared.claim.Claim.{Claim};
 ghost use Rattle.lg_rules.specs.Meaning.Rows.{name_cmp, is_among};
 ghost use Rattle.lg_probe.specs.Meaning.Order.{window};
 ghost use Rattle.lg_timing.specs.declared.config.Config.{Config as Configuration};
 ghost use Rattle.lg_timing.specs.Meaning.Config.{IsChecked};
+ghost use Rattle.lg_membership.specs.Meaning.Log.{needs_room};
 ghost use Rattle.lg_detector.specs.declared.event.Event.{Event as Happened};
 ghost use Rattle.lg_detector.specs.declared.event.Event.TheVariants.{Open as Opening};
-ghost use Rattle.lg_detector.specs.Meaning.Log.{Log};
+ghost use Rattle.lg_detector.specs.Meaning.Log.{Log, group_log};
+ghost use Rattle.lg_detector.specs.Meaning.Forget.{Gone};
+ghost use Rattle.lg_detector.specs.Meaning.Apply.{forget, make_room};
+ghost use Rattle.lg_detector.specs.Meaning.Room.{somebody_is_gone, IsFirstGone};
 ghost use Rattle.lg_detector.specs.Meaning.Probing.{others};
 ghost use Rattle.lg_detector.specs.Meaning.Window.{targets, AreOthers};
 ghost use Rattle.lg_detector.specs.Meaning.Step.{is_accepted, is_open_event, opens_well, begins_open};
@@ -307,6 +313,20 @@ pub fn numbers_are_free()
     ensures next { (f : List Happened) → is_accepted f ≡ true → is_next_in_use (log_of (reverse f)) ≡ false }
     ensures apart { (f : List Happened) → is_accepted f ≡ true
         → IsDistinct nat_eq (numbers_in_use (log_of (reverse f))) }
+{}
+
+/// Who is forgotten to make room for the member of a claim, after any log. If the claim needs room and somebody is
+/// gone, one member is forgotten. It is one of those whose record is Failed or Left. None of these was to be forgotten
+/// at an earlier moment, and none that was at the same moment has a lesser name. Then the claim needs no room any more.
+/// If nobody is gone, or the claim needs no room, nobody is forgotten.
+pub fn room_is_made_by_the_earliest()
+    ensures some { (log : Log) (c : Claim) → needs_room (group_log log) c ≡ true
+        → somebody_is_gone (group_log log) ≡ true
+        → (r : Gone) × IsFirstGone (group_log log) r × (make_room c log ≡ forget r.name log) }
+    ensures none { (log : Log) (c : Claim) → somebody_is_gone (group_log log) ≡ false → make_room c log ≡ log }
+    ensures roomy { (log : Log) (c : Claim) → needs_room (group_log log) c ≡ false → make_room c log ≡ log }
+    ensures enough { (log : Log) (c : Claim) → somebody_is_gone (group_log log) ≡ true
+        → needs_room (group_log (make_room c log)) c ≡ false }
 {}
 
 /// Whom a stretch of rounds chooses (SWIM, section 4.3). Suppose that throughout the stretch the others that aren't

@@ -1,5 +1,6 @@
 -- Worked forgettings of b, which is at 127.0.0.1:7000: when each timer is set, what it does, and what comes after.
-use Rattle.std.specs.Prelude.{◌≡◌, ℕ, List, [], ◌∷◌, Some, refl}
+use Rattle.std.specs.Prelude.{◌≡◌, ℕ, false, List, [], ◌∷◌, Some, refl}
+use Rattle.std.proofs.Common.{lit<}
 use Rattle.lg_rules.specs.declared.claim.Claim.{Claim}
 use Rattle.lg_rules.specs.declared.claim.Status.TheVariants.{Left}
 use Rattle.lg_rules.specs.declared.version.Version.TheVariants.{Three}
@@ -8,11 +9,15 @@ use Rattle.lg_timing.specs.Meaning.Config.{defaults}
 use Rattle.lg_packet.specs.declared.packet.Body.TheVariants.{Gossip}
 use Rattle.lg_timers.specs.declared.timer.Timer.{Timer}
 use Rattle.lg_timers.specs.declared.timer.TimerId.TheVariants.{RoundEnd, Direct, Forget}
+use Rattle.lg_timers.specs.Meaning.Timers.{first_forget}
 use Rattle.lg_detector.specs.declared.event.Event.{Event}
 use Rattle.lg_detector.specs.declared.event.Event.TheVariants.{Open, Health}
 use Rattle.lg_detector.specs.declared.reply.Answer.TheVariants.{Health as OfHealth}
 use Rattle.lg_detector.specs.declared.reply.Reply.{Reply}
+use Rattle.lg_detector.specs.Meaning.Forget.{Gone, gone}
+use Rattle.lg_detector.specs.Meaning.Log.{Log, group_log}
 use Rattle.lg_detector.specs.Meaning.Probing.{cycle_candidates}
+use Rattle.lg_detector.specs.Meaning.Room.{somebody_is_gone, IsFirstGone}
 use Rattle.lg_detector.specs.Meaning.Timing.{pending}
 use Rattle.lg_detector.specs.Meaning.Step.{reply_after, view_after}
 use Rattle.lg_detector.specs.Meaning.Examples.{by_computing, b, c, d, at, alive, failed, on, says_in, nothing}
@@ -138,6 +143,37 @@ it_is_known_again = refl
 known_again : view_after (without_c_then (hears 1020 (alive c 0 ∷ []))) ≡ alive b 0 ∷ alive c 0 ∷ []
 unfolding by_computing
 known_again = refl
+
+-- WHO MAKES ROOM
+-- The one with the earlier deadline is the first to be forgotten, although its name is the greater.
+abbrev d_and_then_c : Log
+d_and_then_c =
+    log_after (opening (seed c ∷ seed d ∷ []) ∷ hears 10 (left d 0 ∷ []) ∷ hears 20 (failed c 0 ∷ []) ∷ [])
+
+abbrev gone_at : ℕ → ℕ → Gone
+gone_at letter deadline = record { name = letter ∷ []; deadline = deadline }
+
+two_are_gone : gone (group_log d_and_then_c) ≡ gone_at c 1020 ∷ gone_at d 1010 ∷ []
+unfolding by_computing
+two_are_gone = refl
+
+d_is_first : IsFirstGone (group_log d_and_then_c) (gone_at d 1010)
+unfolding by_computing
+d_is_first = record { among = (1, lit< tt, refl); first = refl }
+
+its_timer_is_the_first : first_forget (pending d_and_then_c) ≡ Some (forgets 1010 d)
+unfolding by_computing
+its_timer_is_the_first = refl
+
+-- Of two with one deadline it is the one with the lesser name.
+c_is_first : IsFirstGone (group_log (log_after of_two)) (gone_at c 1010)
+unfolding by_computing
+c_is_first = record { among = (0, lit< tt, refl); first = refl }
+
+-- Who is alive isn't gone.
+nobody_is_gone : somebody_is_gone (group_log (log_after (of_c []))) ≡ false
+unfolding by_computing
+nobody_is_gone = refl
 
 -- WHO IS PROBED
 -- b probes c, which leaves and is forgotten: helpers aren't asked at 2000, and nobody is accused at 3000. The score is
