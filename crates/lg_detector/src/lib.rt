@@ -21,8 +21,8 @@ mod standing;
 mod summary;
 
 pub use detector::{
-    Detector, MAX_EVENTS, NoMemory, accepted_lists, numbers_are_free, states_lead_on,
-    windows_have_each,
+    Detector, MAX_EVENTS, NoMemory, accepted_lists, numbers_are_free, room_is_made_by_the_earliest,
+    states_lead_on, windows_have_each,
 };
 pub use event::Event;
 pub use lg_rules::MAX_MEMBERS;
