@@ -227,7 +227,8 @@ pub(crate) fn write_claims(
 )
     requires places { AllByRecursion (IsRowOf rows.now) taken.now }
     requires room { length (option_to_list (option_copied buddy)) + length taken.now ≤ MAX_CLAIMS }
-    ensures { claims.new.items ≡ option_to_list (option_copied buddy.entry) ++ map queued_claim (rows_at rows.now taken.now) }
+    ensures { claims.new.items
+        ≡ option_to_list (option_copied buddy.entry) ++ map queued_claim (rows_at rows.now taken.now) }
 {
     claims.clear();
     if let Some(buddy) = buddy {
@@ -264,7 +265,8 @@ pub(crate) fn fewest_after(
 ) -> u64
     ensures { (rows : List Row) → AreInOrder rows → HasTaken version (option_copied buddy.entry) limit rows taken.now
         → AreSent fewest rows
-        → AreSent result (map (sent_once (map queued_claim (rows_taken version (option_copied buddy.entry) limit rows))) rows) }
+        → AreSent result
+        (map (sent_once (map queued_claim (rows_taken version (option_copied buddy.entry) limit rows))) rows) }
 {
     // Of the row about a buddy's member nothing more is known. And with such a limit no row was taken.
     if buddy.is_some() || limit <= fewest {

@@ -102,8 +102,8 @@ impl Detector {
         self.parts.timers.due(self.parts.moment)
     }
 
-    /// Ends the round that runs. If no Ack counted, its target is suspected. Overwrites `differing` with the record that
-    /// changed by that, if one did.
+    /// Ends the round that runs. If no Ack counted, its target is suspected. Overwrites `differing` with the record
+    /// that changed by that, if one did.
     #[inline(never)]
     fn close_round(&mut self, differing: &mut ArrayVec<Record, MAX_CHANGED>)
         ensures state { let s = self.old in self.new
