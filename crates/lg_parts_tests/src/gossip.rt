@@ -306,6 +306,50 @@ fn sends_up_to_the_limit(rt: HostRuntime) {
     }
 }
 
+/// How many members there are, and how often a claim is sent among them.
+const ENDS: &[(usize, u32)] = &[(9, 4), (999, 12), (usize::MAX, 80)];
+
+/// A queue whose only claim, about `c`, was sent so often, by packets with this buddy or with none.
+fn sent_out(live: usize, sends: u32, buddy: Option<&Claim>) -> Queue {
+    let mut queue = Queue::new(4, Version::One);
+    put(&mut queue, b"0");
+    for _ in 0..sends {
+        queue.fill(buddy, live);
+    }
+    queue
+}
+
+/// Whether the next packet has the claims of these letters, and `c` was sent so often and `d` once then.
+fn takes_d_alone(
+    queue: &mut Queue,
+    live: usize,
+    sends: u32,
+    buddy: Option<&Claim>,
+    letters: &[u8],
+) -> bool {
+    let claims = queue.fill(buddy, live);
+    are_claims(&claims, letters) && has_queued(queue, b"0d", &[sends, 1])
+}
+
+/// Once a claim was sent as often as it may be, there is no news, and the next packets take only what is put then. So
+/// do those of a copy. If each packet had a buddy, the queue knows of no number that all claims were sent at least.
+#[test]
+fn sends_no_more(rt: HostRuntime) {
+    let e = alive(b'e', 0);
+    for (live, sends) in ENDS {
+        for (buddy, letters) in [(None, b"d".as_slice()), (Some(&e), b"ed")] {
+            let mut queue = sent_out(*live, *sends, buddy);
+            let has_ended = has_no_news(&queue, *live);
+            put(&mut queue, b"d");
+            let mut copy = queue.copy();
+            let met = has_ended
+                && takes_d_alone(&mut queue, *live, *sends, buddy, letters)
+                && takes_d_alone(&mut copy, *live, *sends, buddy, letters);
+            assert!(rt; met, "{letters:?} among {live}: {queue:?}, {copy:?}");
+        }
+    }
+}
+
 /// A queue that starts over is empty, and has another version.
 #[test]
 fn starts_over(rt: HostRuntime) {

@@ -218,8 +218,8 @@ fn other_bytes_and_one_byte_more(rt: HostRuntime) {
     }
 }
 
-/// Bytes that are no packet, with their fault. The last three are fronts of the packet with too great an incarnation,
-/// and that packet itself.
+/// Bytes that are no packet, with their fault. The last four are fronts of packets with too great an incarnation, which
+/// is judged once its four bytes are there, and such a packet itself.
 const REFUSED: &[(&[u8], Fault)] = &[
     (b"", Fault::Short),
     (b"S", Fault::Short),
@@ -247,6 +247,10 @@ const REFUSED: &[(&[u8], Fault)] = &[
     (b"SL\x01\x06\x01b\x07", Fault::Count),
     (
         b"SL\x01\x01\x01a\x00\x00\x00\x01\x01b\x01\x02\x01b\x7f\x00\x00\x01\x1b\x58\x3b\x9a\xca",
+        Fault::Short,
+    ),
+    (
+        b"SL\x01\x01\x01a\x00\x00\x00\x01\x01b\x01\x02\x01b\x7f\x00\x00\x01\x1b\x58\xff\xff\xff",
         Fault::Short,
     ),
     (
