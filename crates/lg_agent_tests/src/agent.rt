@@ -2,6 +2,7 @@
 //! that share one.
 pub mod calls;
 mod choosing;
+mod exchanging;
 mod faults;
 pub mod forms;
 mod leaving;
