@@ -25,6 +25,8 @@ use std::sync::{Mutex, MutexGuard, Wait};
 enum Happens {
     /// It is alive, at an incarnation.
     Alive(u8, u32),
+    /// It is alive, at each incarnation from 0 to this one.
+    Rises(u8, u32),
     /// It is suspected, at an incarnation, by the member named by the second letter.
     Suspect(u8, u32, u8),
     /// It has failed, at an incarnation.
@@ -37,7 +39,7 @@ enum Happens {
     Stop,
 }
 
-use Happens::{Alive, Failed, Passes, Stop, Suspect, Tick};
+use Happens::{Alive, Failed, Passes, Rises, Stop, Suspect, Tick};
 
 /// What happens in each pause of a watcher, and what comes of it.
 #[derive(Clone, Copy, Debug)]
@@ -93,6 +95,11 @@ impl<'a, 'p, A: AgentName, R: Wait> PausingClock<'a, 'p, A, R> {
     fn happen(&self, happens: Happens) {
         match happens {
             Alive(member, number) => self.hear(alive(member, number)),
+            Rises(member, last) => {
+                for number in 0..=last {
+                    self.hear(alive(member, number));
+                }
+            }
             Suspect(member, number, accuser) => self.hear(suspect(member, number, accuser)),
             Failed(member, number) => self.hear(failed(member, number)),
             Passes(ms) => {
@@ -303,6 +310,26 @@ fn tells_each_change(rt: HostRuntime) {
         ));
         assert!(rt; met && RETRY_MS == 50, "{row:?}");
     }
+}
+
+/// One change more than are kept between two looks, 1,025: the first of them isn't told any more.
+const MISSED: Watching = Watching {
+    stopped: false,
+    pauses: &[&[], &[Rises(b'c', 1024)]],
+    texts: 3,
+    text: "0 record b alive 0 127.0.0.1:7000\n100 missed\n100 record b alive 0 127.0.0.1:7000\n\
+        100 record c alive 1024 127.0.0.1:7000\n150 stood-still 150\n",
+};
+
+/// A watcher that missed a change says so, and tells all records.
+#[test]
+fn says_that_it_missed_changes(rt: HostRuntime) {
+    let met = run(&rt, rt.alloc(), &MISSED, 0).is_some_and(|outcome| has_told(
+        &outcome,
+        MISSED.text,
+        MISSED.texts,
+    ));
+    assert!(rt; met, "{MISSED:?}");
 }
 
 /// Whether a watcher ended at the call that fails, with a beginning of its text written.
