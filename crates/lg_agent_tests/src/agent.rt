@@ -2,7 +2,6 @@
 //! that share one.
 pub mod calls;
 mod choosing;
-mod exchanging;
 mod faults;
 pub mod forms;
 mod leaving;

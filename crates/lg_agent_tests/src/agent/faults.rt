@@ -1,6 +1,5 @@
 //! Worked closings, by the definition that the contract of [`Kept::audit`](lg_agent::Kept::audit) names. What passes
-//! leave has the name and the positions of their own agent, so no run of a proved program shows what the closing says
-//! of others. `exchanging.rt` has runs that break what a call requires.
+//! leave has the name and the positions of their own agent, so no run shows what the closing says of others.
 ghost use Rattle.std.specs.Prelude.{◌≡◌, ◌∷◌, [], ℕ, Some, None};
 ghost use Rattle.lg_timing.specs.declared.config.Config.{Config};
 ghost use Rattle.lg_detector.specs.declared.event.Event.{Event};
