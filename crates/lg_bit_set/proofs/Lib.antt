@@ -10,6 +10,7 @@ pub mod EntryLaws
 pub mod SameSets
 pub mod SetFlags
 pub mod TestLaws
+pub mod Union
 pub mod Without
 pub mod WordFlags
 pub mod Halves

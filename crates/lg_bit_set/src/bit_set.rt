@@ -85,7 +85,18 @@ impl Eq for BitSet {
 }
 
 impl BitSet {
-    ghost use Rattle.std.specs.Prelude.{◌≡◌, true, false, drop, length, nat_eq, slice_index_or, slice_set};
+    ghost use Rattle.std.specs.Prelude.{
+      ◌≡◌,
+      ℕ,
+      ◌||◌,
+      true,
+      false,
+      drop,
+      length,
+      nat_eq,
+      slice_index_or,
+      slice_set,
+    };
     ghost use Rattle.lg_bit_set.specs.Meaning.Flags.{
       no_flags,
       flags_below,
@@ -165,6 +176,20 @@ impl BitSet {
         let [e, f, g, h] = other.words;
         BitSet {
             words: [a & !e, b & !f, c & !g, d & !h],
+        }
+    }
+
+    /// The numbers that are in this set or in the other.
+    #[inline(always)]
+    pub fn union(&self, other: &BitSet) -> BitSet
+        ensures flags { (number : ℕ) → slice_index_or result number false
+            ≡ (slice_index_or self.now number false || slice_index_or other.now number false) }
+        ensures size { length result ≡ NUMBERS }
+    {
+        let [a, b, c, d] = self.words;
+        let [e, f, g, h] = other.words;
+        BitSet {
+            words: [a | e, b | f, c | g, d | h],
         }
     }
 

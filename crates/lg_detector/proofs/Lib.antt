@@ -15,6 +15,7 @@ pub mod Forgetting
 pub mod Ticking
 pub mod Sending
 pub mod Telling
+pub mod GossipLaws
 pub mod LeaveTelling
 pub mod StepLaws
 pub mod CycleLaws

@@ -2,31 +2,13 @@
 use Rattle.std.proofs.Common.{◌≡◌, ℕ, ◌≤◌, false, List, [], ◌∷◌, ◌++◌, append-nil, cond, length, drop, take, refl, sym, ap, ◌∙◌}
 use Rattle.std.proofs.lemmas.List.{drop_all}
 use Rattle.lg_rules.specs.declared.claim.Claim.{Claim}
-use Rattle.lg_packet.specs.declared.packet.Body.{Body}
-use Rattle.lg_packet.specs.declared.packet.Body.TheVariants.{Ping, PingReq, Ack, Nack, Pull, Page, Gossip}
 use Rattle.lg_detector.specs.declared.message.Message.{Message}
 use Rattle.lg_detector.specs.declared.reply.Outgoing.{Outgoing}
 use Rattle.lg_detector.specs.Meaning.Tick.{gossips_for}
 use Rattle.lg_detector.specs.Support.Send.{packets_state, send_all_state, send_state}
-use Rattle.lg_detector.specs.Support.State.{State, gossip_fired, has_news_in}
+use Rattle.lg_detector.specs.Support.State.{State, has_news_in}
 use Rattle.lg_detector.specs.Support.Step.{view_state}
 use Rattle.lg_detector.specs.Support.Tick.{while_news_state}
-
--- What is sent goes by what is known of the group, and not by the timer.
-send-fired : (body : Body) (s : State) → send_state body (gossip_fired s) ≡ gossip_fired (send_state body s)
-send-fired (Ping number target) s = refl
-send-fired (PingReq number target addr) s = refl
-send-fired (Ack number receiver) s = refl
-send-fired (Nack number receiver) s = refl
-send-fired (Pull after) s = refl
-send-fired Page s = refl
-send-fired Gossip s = refl
-
-pub while_news-fired : (ms : List Message) (s : State) → while_news_state ms (gossip_fired s) ≡ while_news_state ms s
-while_news-fired [] s = refl
-while_news-fired (m ∷ ms) s =
-    ap (λ l. cond (has_news_in s.membership) (m ∷ l) [])
-    (ap (while_news_state ms) (send-fired m.body s) ∙ while_news-fired ms (send_state m.body s))
 
 -- the Gossips to the names from an index on, for each that has a record
 abbrev pub gossips_from : ℕ → List Claim → List (List ℕ) → List Message

@@ -30,7 +30,7 @@ ghost use Rattle.lg_detector.specs.Meaning.Relaying.{is_next_in_use, numbers_in_
 ghost use Rattle.lg_detector.specs.Meaning.Step.{log_of, reply_after, deadline_after};
 ghost use Rattle.lg_detector.specs.Meaning.Choice.{choice_of_reply, targets_after};
 ghost use Rattle.lg_detector.specs.Support.Step as state;
-ghost use Rattle.lg_detector.specs.Support.Step.{answer_by_state, changed_by_state, fired_by_state, happen_state};
+ghost use Rattle.lg_detector.specs.Support.Step.{answer_by_state, changed_by_state, fired_by_state, react_state};
 ghost use Rattle.lg_detector.specs.Support.Step.{forgotten_by_state};
 ghost use Rattle.lg_detector.specs.Support.Step.{reply_state};
 ghost use Rattle.lg_detector.specs.Support.Step.{sends_by_state, step_state};
@@ -213,17 +213,18 @@ impl Detector {
         ensures reply { reply.new ≡ reply_state self.old event.now }
     {
         self.react(event, reply);
-        self.end_event();
+        self.end_event(&reply.fired);
         reply.ousted = self.is_ousted();
         reply.next = self.next();
     }
 }
 
 impl Detector {
-    /// Advances the state by an accepted event, and writes the parts of the reply that the event itself makes.
+    /// Advances the state by an accepted event, up to its end, and writes the parts of the reply that the event itself
+    /// makes.
     fn react(&mut self, event: &Event, reply: &mut Reply)
         requires { IsTrue (accepts_of self.old event.now) }
-        ensures state { self.new ≡ happen_state self.old event.now }
+        ensures state { self.new ≡ react_state self.old event.now }
         ensures fired { reply.new.fired ≡ fired_by_state self.old event.now }
         ensures sends { reply.new.sends.items ≡ sends_by_state self.old event.now }
         ensures differing { reply.new.changed.items ≡ changed_by_state self.old event.now }

@@ -1,41 +1,9 @@
 -- What a packet counts in the queue.
-use Rattle.std.proofs.Common.{
-  ◌≡◌,
-  ◌≢◌,
-  inl,
-  inr,
-  ℕ,
-  suc,
-  zero,
-  ◌+◌,
-  ◌<◌,
-  ◌≤◌,
-  Bool,
-  true,
-  false,
-  ◌||◌,
-  List,
-  [],
-  ◌∷◌,
-  ◌++◌,
-  length,
-  map,
-  take,
-  drop,
-  get_or,
-  set,
-  refl,
-  sym,
-  ◌∙◌,
-  ap,
-  subst,
-  arith,
-}
+use Rattle.std.proofs.Common.{◌≡◌, ◌≢◌, inl, inr, ℕ, suc, zero, ◌+◌, ◌<◌, ◌≤◌, Bool, true, false, ◌||◌, List, [], ◌∷◌, ◌++◌, length, map, take, get_or, set, refl, sym, ◌∙◌, ap, subst, arith}
 use Rattle.std.specs.declared.cmp.Ordering.TheVariants.{Less}
 use Rattle.std.specs.Prelude.{option_map}
-use Rattle.std.specs.List.{AllByRecursion, refill}
+use Rattle.std.specs.List.{AllByRecursion}
 use Rattle.std.proofs.lemmas.Bool.{cases_Bool}
-use Rattle.std.proofs.lemmas.List.{take-append-le, take_all}
 use Rattle.std.proofs.lemmas.Option.{slice_get_within, get_or_from_slice_get, slice_get-map}
 use Rattle.lg_rules.specs.declared.claim.Claim.{Claim}
 use Rattle.lg_rules.specs.Meaning.Claim.{name_of}
@@ -114,16 +82,17 @@ sent-either rows now taken q t one is read other =
 
 pub count-next : (rows now : List Queued) (k : ℕ) (d : TakenRow) (e : Queued) (ts : List TakenRow) → k < length ts → AllByRecursion (IsRowOf rows) ts → AreInOrder rows
     → now ≡ map (sent_once (map queued_claim (rows_at rows (take k ts)))) rows
-    → set now (get_or ts k d).index record { claim = (get_or now (get_or ts k d).index e).claim; sends = (get_or ts k d).sends + 1 }
+    → e ≡ get_or now (get_or ts k d).index e
+    → set now (get_or ts k d).index record { claim = e.claim; sends = (get_or ts k d).sends + 1 }
     ≡ map (sent_once (map queued_claim (rows_at rows (take (k + 1) ts)))) rows
-count-next rows now k d e ts l a o is =
+count-next rows now k d e ts l a o is held =
     let t = get_or ts k d in
     let one = holds_at (IsRowOf rows) k d ts l a in
     let taken = map queued_claim (rows_at rows (take k ts)) in
     let within = slice_get_within rows t.index one.row one.stands in
-    let there : get_or now t.index e ≡ sent_once taken one.row = ap (λ rs. get_or rs t.index e) is
+    let there : e ≡ sent_once taken one.row = held ∙ ap (λ rs. get_or rs t.index e) is
     ∙ get_or_from_slice_get (map (sent_once taken) rows) t.index (sent_once taken one.row) e (slice_get-map (sent_once taken) rows t.index ∙ ap (option_map (sent_once taken)) one.stands) in
-    let row : ◌≡◌ {A = Queued} record { claim = (get_or now t.index e).claim; sends = t.sends + 1 } record { claim = one.row.claim; sends = one.row.sends + 1 } =
+    let row : ◌≡◌ {A = Queued} record { claim = e.claim; sends = t.sends + 1 } record { claim = one.row.claim; sends = one.row.sends + 1 } =
     λ i. record { claim = (there i).claim; sends = one.sends i + 1 } in
     let read : one.row ≡ get_or rows t.index one.row = sym (get_or_from_slice_get rows t.index one.row one.row one.stands) in
     let more : taken ++ queued_claim one.row ∷ [] ≡ map queued_claim (rows_at rows (take (k + 1) ts)) =
@@ -132,8 +101,3 @@ count-next rows now k d e ts l a o is =
     ∙ ap (λ rs. set rs t.index record { claim = one.row.claim; sends = one.row.sends + 1 }) is
     ∙ count-more taken t.index one.row rows within read o
     ∙ ap (λ cs. map (sent_once cs) rows) more
-
--- what is written over a whole row of places is all that is there
-pub refill-whole : (n : ℕ) (before after : List Queued) → length after ≡ n → refill n before after ≡ after
-refill-whole n before after l =
-    take-append-le n after (drop (length after) before) (omega (arith, l)) ∙ take_all n after (omega (arith, l))

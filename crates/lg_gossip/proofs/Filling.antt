@@ -1,7 +1,6 @@
 -- A packet filled from the fields of a queue.
-use Rattle.std.proofs.Common.{◌≡◌, ℕ, ◌++◌, List, length, map, Option, sym, ◌∙◌, ap, subst}
-use Rattle.std.specs.List.{AllByRecursion, refill}
-use Rattle.std.proofs.lemmas.List.{length-map}
+use Rattle.std.proofs.Common.{◌≡◌, ℕ, ◌++◌, List, map, Option, sym, ◌∙◌, ap, subst}
+use Rattle.std.specs.List.{AllByRecursion}
 use Rattle.std.specs.Option.{option_to_list}
 use Rattle.lg_rules.specs.declared.claim.Claim.{Claim}
 use Rattle.lg_rules.specs.declared.version.Version.{Version}
@@ -9,41 +8,22 @@ use Rattle.lg_gossip.specs.declared.choice.TakenRow.{TakenRow}
 use Rattle.lg_gossip.specs.declared.queued.Queued.{Queued}
 use Rattle.lg_gossip.specs.Meaning.Queue.{QueueValue, queued_claim, buddy_of, limit_of, rows_taken, taken_of, fill_of, sent_once, filled}
 use Rattle.lg_gossip.specs.Support.Places.{IsRowOf, rows_at}
-use Rattle.lg_gossip.proofs.Counting.{refill-whole}
 
--- the rows at the places that were chosen, whichever slices they are read through
-pub taken-at : (rows read again : List Queued) (places shown : List TakenRow) (v : Version) (buddy : Option Claim)
-    (limit : ℕ)
-    → read ≡ rows → again ≡ rows → shown ≡ places
-    → rows_at read places ≡ rows_taken v buddy limit read → rows_at again shown ≡ rows_taken v buddy limit rows
-taken-at rows read again places shown v buddy limit r a s t =
-    ap (λ rs. rows_at rs shown) (a ∙ sym r) ∙ ap (rows_at read) s ∙ t ∙ ap (rows_taken v buddy limit) r
+module _ (rows : List Queued) (places shown : List TakenRow) (same : shown ≡ places) where
+  -- the places that were chosen are read through a slice
+  pub places-at : AllByRecursion (IsRowOf rows) places → AllByRecursion (IsRowOf rows) shown
+  places-at all = subst (λ ts. AllByRecursion (IsRowOf rows) ts) (sym same) all
 
-pub places-at : (rows read : List Queued) (places shown : List TakenRow) → read ≡ rows → shown ≡ places → AllByRecursion (IsRowOf read) places → AllByRecursion (IsRowOf rows) shown
-places-at rows read places shown r s a = subst (λ ts. AllByRecursion (IsRowOf rows) ts) (sym s) (subst (λ rs. AllByRecursion (IsRowOf rs) places) r a)
+  module _ (v : Version) (buddy : Option Claim) (limit : ℕ)
+      (chosen : rows_at rows places ≡ rows_taken v buddy limit rows) where
+    -- and so are the rows there
+    pub taken-at : rows_at rows shown ≡ rows_taken v buddy limit rows
+    taken-at = ap (rows_at rows) same ∙ chosen
 
--- a packet is counted at each row
-pub counted-each : (rows again read after : List Queued) (places shown : List TakenRow) (v : Version)
-    (buddy : Option Claim) (limit : ℕ) → read ≡ rows → shown ≡ places
-    → rows_at read places ≡ rows_taken v buddy limit read → again ≡ rows
-    → after ≡ map (sent_once (map queued_claim (rows_at again shown))) again
-    → after ≡ map (sent_once (map queued_claim (rows_taken v buddy limit rows))) rows
-counted-each rows again read after places shown v buddy limit r s t a is =
-    is ∙ ap (λ rs. map (sent_once (map queued_claim (rows_at again shown))) rs) a
-    ∙ ap (λ ts. map (sent_once (map queued_claim ts)) rows)
-    (taken-at rows read again places shown v buddy limit r a s t)
-
--- a packet is counted over all rows
-pub counted-whole : (rows again read after : List Queued) (places shown : List TakenRow) (v : Version)
-    (buddy : Option Claim) (limit : ℕ) → read ≡ rows → shown ≡ places
-    → rows_at read places ≡ rows_taken v buddy limit read → again ≡ rows
-    → after ≡ map (sent_once (map queued_claim (rows_at again shown))) again
-    → refill (length rows) rows after ≡ map (sent_once (map queued_claim (rows_taken v buddy limit rows))) rows
-counted-whole rows again read after places shown v buddy limit r s t a is =
-    let whole = counted-each rows again read after places shown v buddy limit r s t a is in
-    refill-whole (length rows) rows after
-    (ap length whole ∙ length-map rows (sent_once (map queued_claim (rows_taken v buddy limit rows))))
-    ∙ whole
+    -- a packet is counted at each row
+    pub counted-each : (after : List Queued) → after ≡ map (sent_once (map queued_claim (rows_at rows shown))) rows
+        → after ≡ map (sent_once (map queued_claim (rows_taken v buddy limit rows))) rows
+    counted-each after is = is ∙ ap (λ ts. map (sent_once (map queued_claim ts)) rows) taken-at
 
 -- what is chosen among the rows of a queue
 pub record IsChosen (queue : QueueValue) (to : Option Claim) (n : ℕ) (buddy : Option Claim) (limit : ℕ)

@@ -5,6 +5,8 @@ use Rattle.std.proofs.Common.{
   ℕ,
   zero,
   suc,
+  ◌+◌,
+  ◌-◌,
   ◌<◌,
   ◌≤◌,
   Bool,
@@ -13,6 +15,8 @@ use Rattle.std.proofs.Common.{
   List,
   [],
   ◌∷◌,
+  ◌++◌,
+  map,
   length,
   get_or,
   set,
@@ -27,7 +31,8 @@ use Rattle.std.proofs.Common.{
   arith,
 }
 use Rattle.std.specs.Prelude.{insert, remove, nat_eq, slice_get}
-use Rattle.std.proofs.lemmas.Bool.{cases_eq, eq-eqb, ne_eqb}
+use Rattle.std.specs.List.{AllByRecursion}
+use Rattle.std.proofs.lemmas.Bool.{cases_eq, cases_lt, eq-eqb, ne_eqb}
 use Rattle.std.proofs.lemmas.List.{
   set-get_or,
   set-set,
@@ -36,7 +41,9 @@ use Rattle.std.proofs.lemmas.List.{
   get_or-replicate,
   length-set,
   length-replicate,
+  replicate-append-replicate,
 }
+use Rattle.std.proofs.lemmas.List.Edits.{length-insert, length-remove}
 use Rattle.std.proofs.lemmas.Option.{slice_get_within, get_or_from_slice_get}
 use Rattle.lg_bit_set.specs.Meaning.Flags.{no_flags, flags_by, opened_flags, closed_flags}
 use Rattle.lg_bit_set.proofs.FilterLaws.{get_or-flags_by}
@@ -46,6 +53,8 @@ use Rattle.lg_gossip.specs.declared.queue.TheConstants.{MAX_QUEUED}
 use Rattle.lg_gossip.specs.declared.queued.Queued.{Queued}
 use Rattle.lg_gossip.specs.declared.sets.TheConstants.{SETS}
 use Rattle.lg_gossip.specs.Support.Sets.{was_sent, AreSets}
+use Rattle.lg_gossip.specs.Support.Sound.{AreBelow}
+use Rattle.lg_gossip.proofs.Each.{all-insert}
 
 -- to write what is there changes nothing
 pub set_same : {X : Type 0} (xs : List X) (i : ℕ) (x d : X) → get_or xs i d ≡ x → set xs i x ≡ xs
@@ -143,15 +152,54 @@ module _ (sent : List (List Bool)) (rows : List Queued) (row next : Queued) (ind
     ];
   }
 
-module _ (sent opened : List (List Bool)) (rows : List Queued) (row : Queued) (index so : ℕ)
+-- if no row was sent so often, the set has none
+none_sent : (sends : ℕ) (rows : List Queued) → AllByRecursion (λ q. was_sent sends q ≡ false) rows
+    → map (was_sent sends) rows ≡ replicate (length rows) false
+none_sent sends [] all = refl
+none_sent sends (q ∷ qs) all = rw all.0 (ap (λ flags. false ∷ flags) (none_sent sends qs all.1))
+
+no_flag : (sends : ℕ) (rows : List Queued) → length rows ≤ MAX_QUEUED
+    → AllByRecursion (λ q. was_sent sends q ≡ false) rows → flags_by (was_sent sends) rows ≡ no_flags
+unfolding flags_by no_flags
+no_flag sends rows few all =
+    let more = MAX_QUEUED - length rows in
+    let whole : length rows + more ≡ MAX_QUEUED = omega (arith, few) in
+    ap (λ flags. flags ++ replicate more false) (none_sent sends rows all)
+    ∙ replicate-append-replicate (length rows) more false
+    ∙ ap (λ n. replicate n false) whole
+
+none_above : (used sends : ℕ) (rows : List Queued) → used ≤ sends → sends < SETS → AreBelow used rows
+    → AllByRecursion (λ q. was_sent sends q ≡ false) rows
+none_above used sends [] l w b = tt
+none_above used sends (q ∷ qs) l w b =
+    (ne_eqb q.sends sends (λ e. omega (arith, e, l, b.0 (omega (arith, e, w)))), none_above used sends qs l w b.1)
+
+-- such a set has no row, whatever rows there are
+same_above : (used sends : ℕ) (rows others : List Queued) → used ≤ sends → sends < SETS → AreBelow used rows
+    → AreBelow used others → length rows ≤ MAX_QUEUED → length others ≤ MAX_QUEUED
+    → flags_by (was_sent sends) rows ≡ flags_by (was_sent sends) others
+same_above used sends rows others l w b o few many =
+    no_flag sends rows few (none_above used sends rows l w b)
+    ∙ sym (no_flag sends others many (none_above used sends others l w o))
+
+all-remove : (P : Queued → Type 0) (rows : List Queued) (index : ℕ) → AllByRecursion P rows
+    → AllByRecursion P (remove rows index)
+all-remove P [] zero all = all
+all-remove P [] (suc index) all = all
+all-remove P (q ∷ qs) zero all = all.1
+all-remove P (q ∷ qs) (suc index) all = (all.0, all-remove P qs index all.1)
+
+module _ (sent opened : List (List Bool)) (rows : List Queued) (row : Queued) (index so used : ℕ)
     (sets : AreSets sent rows) (long : length opened ≡ SETS)
-    (each : (sends : ℕ) (d : List Bool) → sends < SETS
+    (each : (sends : ℕ) (d : List Bool) → sends < used
     → get_or opened sends d ≡ opened_flags index (get_or sent sends d))
+    (kept : (sends : ℕ) (d : List Bool) → used ≤ sends → get_or opened sends d ≡ get_or sent sends d)
+    (enough : used ≤ SETS) (below : AreBelow used rows) (under : row.sends < SETS → row.sends < used)
     (few : length rows < MAX_QUEUED) (within : index ≤ length rows) (was : row.sends ≡ so) where
   -- a place is open in the set of the rows that were sent so often
-  open_place : (sends : ℕ) (d : List Bool) → sends < SETS
+  open_place : (sends : ℕ) (d : List Bool) → sends < used
       → get_or opened sends d ≡ opened_flags index (flags_by (was_sent sends) rows)
-  open_place sends d l = each sends d l ∙ ap (opened_flags index) (sets.each sends d l)
+  open_place sends d l = each sends d l ∙ ap (opened_flags index) (sets.each sends d (omega (arith, l, enough)))
 
   filled_place : (sends : ℕ) (flag : Bool) → flag ≡ nat_eq so sends
       → set (opened_flags index (flags_by (was_sent sends) rows)) index flag
@@ -160,6 +208,23 @@ module _ (sent opened : List (List Bool)) (rows : List Queued) (row : Queued) (i
       ap (set (opened_flags index (flags_by (was_sent sends) rows)) index) (e ∙ ap (λ n. nat_eq n sends) (sym was))
       ∙ opened_flags-flags_by (was_sent sends) rows index row few within
 
+  other_set : (sends : ℕ) (d : List Bool) → sends < SETS → sends ≢ so
+      → get_or opened sends d ≡ flags_by (was_sent sends) (insert rows index row)
+  other_set sends d l n = elim (cases_lt sends used) [
+    | inl u ↦
+        let many = length-flags_by (was_sent sends) rows (omega (arith, few)) in
+        open_place sends d u
+        ∙ sym (set_same (opened_flags index (flags_by (was_sent sends) rows)) index false false
+        (get_or-opened_flags (flags_by (was_sent sends) rows) index (omega (arith, many, few, within))))
+        ∙ filled_place sends false (sym (ne_eqb so sends (λ e. n (sym e))))
+    | inr g ↦
+        kept sends d g
+        ∙ sets.each sends d l
+        ∙ same_above used sends rows (insert rows index row) g l below
+        (all-insert (λ q. q.sends < SETS → q.sends < used) index row rows under below)
+        (omega (arith, few)) (omega (arith, few, length-insert rows index row within))
+  ]
+
   pub sets-opened : AreSets (with_flag opened so index true) (insert rows index row)
   sets-opened = record {
     long = length-flag opened so index true ∙ long;
@@ -167,30 +232,33 @@ module _ (sent opened : List (List Bool)) (rows : List Queued) (row : Queued) (i
       | inl e ↦
           ap (λ n. get_or (with_flag opened so index true) n d) e
           ∙ flag-here opened so index true d (omega (arith, long, l, e))
-          ∙ ap (λ s. set s index true) (open_place so [] (omega (arith, l, e)))
+          ∙ ap (λ s. set s index true) (open_place so [] (omega (arith, was, under (omega (arith, was, l, e)))))
           ∙ filled_place so true (sym (eq-eqb so so refl))
           ∙ ap (λ n. flags_by (was_sent n) (insert rows index row)) (sym e)
-      | inr n ↦
-          let many = length-flags_by (was_sent sends) rows (omega (arith, few)) in
-          flag-other opened so sends index true d n
-          ∙ open_place sends d l
-          ∙ sym (set_same (opened_flags index (flags_by (was_sent sends) rows)) index false false
-          (get_or-opened_flags (flags_by (was_sent sends) rows) index (omega (arith, many, few, within))))
-          ∙ filled_place sends false (sym (ne_eqb so sends (λ e. n (sym e))))
+      | inr n ↦ flag-other opened so sends index true d n ∙ other_set sends d l n
     ];
   }
 
 -- once a row is removed, its place is closed in each set
-pub sets-closed : (sent closed : List (List Bool)) (rows : List Queued) (index : ℕ) → AreSets sent rows
+pub sets-closed : (sent closed : List (List Bool)) (rows : List Queued) (index used : ℕ) → AreSets sent rows
     → length closed ≡ length sent
-    → ((sends : ℕ) (d : List Bool) → sends < SETS → get_or closed sends d ≡ closed_flags index (get_or sent sends d))
-    → length rows ≤ MAX_QUEUED → index < length rows → AreSets closed (remove rows index)
-sets-closed sent closed rows index sets long each few within = record {
+    → ((sends : ℕ) (d : List Bool) → sends < used → get_or closed sends d ≡ closed_flags index (get_or sent sends d))
+    → ((sends : ℕ) (d : List Bool) → used ≤ sends → get_or closed sends d ≡ get_or sent sends d)
+    → AreBelow used rows → length rows ≤ MAX_QUEUED → index < length rows → AreSets closed (remove rows index)
+sets-closed sent closed rows index used sets long each kept below few within = record {
   long = long ∙ sets.long;
-  each = λ sends d l.
-      each sends d l
-      ∙ ap (closed_flags index) (sets.each sends d l)
-      ∙ closed_flags-flags_by (was_sent sends) rows index few within;
+  each = λ sends d l. elim (cases_lt sends used) [
+    | inl u ↦
+        each sends d u
+        ∙ ap (closed_flags index) (sets.each sends d l)
+        ∙ closed_flags-flags_by (was_sent sends) rows index few within
+    | inr g ↦
+        kept sends d g
+        ∙ sets.each sends d l
+        ∙ same_above used sends rows (remove rows index) g l below
+        (all-remove (λ q. q.sends < SETS → q.sends < used) rows index below) few
+        (omega (arith, few, within, length-remove rows index within))
+  ];
 }
 
 -- where there are no rows, no set has one

@@ -2,6 +2,7 @@
 use Rattle.std.proofs.Common.{
   ◌≡◌,
   ℕ,
+  ◌+◌,
   Bool,
   true,
   Option,
@@ -12,6 +13,7 @@ use Rattle.std.proofs.Common.{
   List,
   [],
   ◌∷◌,
+  length,
   map,
   replicate,
   refl,
@@ -27,6 +29,7 @@ use Rattle.lg_rules.specs.Meaning.Claim.{name_of}
 use Rattle.lg_rules.specs.Meaning.Rows.{name_cmp, is_same, is_among, put_row, put_key, without_row, Rises}
 use Rattle.lg_rules.specs.Meaning.Version.{tells}
 use Rattle.std.proofs.lemmas.Bool.{cases_Bool}
+use Rattle.std.proofs.lemmas.List.{length-map}
 use Rattle.lg_rules.proofs.Cases.{Below, Tied, Above, compared}
 use Rattle.lg_rules.proofs.KeyOrder.{names_order}
 use Rattle.lg_rules.proofs.Removing.{rises-without}
@@ -43,13 +46,14 @@ use Rattle.lg_gossip.specs.Meaning.Queue.{
 }
 use Rattle.lg_bit_set.specs.Meaning.Flags.{no_flags}
 use Rattle.lg_rules.specs.declared.claim.TheConstants.{MAX_LAMBDA}
+use Rattle.lg_gossip.specs.declared.queue.TheConstants.{MAX_QUEUED}
 use Rattle.lg_gossip.specs.declared.sets.TheConstants.{SETS}
 use Rattle.lg_gossip.proofs.Each.{all-both}
 use Rattle.lg_gossip.proofs.Moving.{sets-none}
 use Rattle.lg_gossip.proofs.Fewest.{sent-none}
 use Rattle.lg_gossip.proofs.Taken.{below_limit, may_when_taken}
 use Rattle.lg_gossip.specs.Support.Sets.{AreSets}
-use Rattle.lg_gossip.specs.Support.Sound.{AreSent, IsSound}
+use Rattle.lg_gossip.specs.Support.Sound.{AreBelow, AreSent, IsSound}
 
 -- the names of rows with one put
 names-put : (r : Queued) (rows : List Queued) → map queued_name (put_row name_cmp queued_name r rows) ≡ put_key name_cmp (queued_name r) (map queued_name rows)
@@ -60,18 +64,29 @@ names-put r (x ∷ xs) = elim (compared (name_cmp (queued_name r) (queued_name x
   | Above a ↦ rw a (ap (λ ns. queued_name x ∷ ns) (names-put r xs))
 ]
 
-within-put : (most : ℕ) (r : Queued) (rows : List Queued) → r.sends ≤ most → AllByRecursion (λ q. q.sends ≤ most) rows → AllByRecursion (λ q. q.sends ≤ most) (put_row name_cmp queued_name r rows)
-within-put most r [] l w = (l, tt)
-within-put most r (x ∷ xs) l w = elim (compared (name_cmp (queued_name r) (queued_name x))) [
-  | Below e ↦ rw e (l, w)
-  | Tied e ↦ rw e (l, w.1)
-  | Above e ↦ rw e (w.0, within-put most r xs l w.1)
+all-put : (P : Queued → Type 0) (r : Queued) (rows : List Queued) → P r → AllByRecursion P rows
+    → AllByRecursion P (put_row name_cmp queued_name r rows)
+all-put P r [] p all = (p, all)
+all-put P r (x ∷ xs) p all = elim (compared (name_cmp (queued_name r) (queued_name x))) [
+  | Below e ↦ rw e (p, all)
+  | Tied e ↦ rw e (p, all.1)
+  | Above e ↦ rw e (all.0, all-put P r xs p all.1)
 ]
 
 -- a new queue has no rows, and no set has one
 pub sound-new : (lambda fewest : ℕ) (set : List Bool) → lambda ≤ MAX_LAMBDA → set ≡ no_flags
-    → IsSound lambda fewest (replicate SETS set) []
-sound-new lambda fewest set l e = record { often = l; in_order = tt; within = tt; least = tt; sets = sets-none set e }
+    → IsSound lambda fewest 1 (replicate SETS set) []
+sound-new lambda fewest set l e = record {
+  often = l;
+  few = omega arith;
+  in_order = tt;
+  within = tt;
+  least = tt;
+  some = omega arith;
+  enough = omega arith;
+  below = tt;
+  sets = sets-none set e;
+}
 
 -- the sends of a claim that no packet has taken yet are none or the most
 within-fresh : (v : Version) (c : Claim) → first_sends v c ≤ most_times_sent
@@ -80,16 +95,28 @@ within-fresh v c = elim (cases_Bool (tells v c.addr)) [
   | inr f ↦ rw f (omega arith)
 ]
 
-pub sound-put : (lambda fewest : ℕ) (v : Version) (c : Claim) (sent now : List (List Bool)) (rows : List Queued)
-    → IsSound lambda fewest sent rows
+-- and if they are fewer than there are sets, they are none
+pub below-fresh : (v : Version) (c : Claim) (used : ℕ) → 0 < used → first_sends v c < SETS → first_sends v c < used
+below-fresh v c used some = elim (cases_Bool (tells v c.addr)) [
+  | inl t ↦ rw t (λ l. some)
+  | inr f ↦ rw f (λ l. absurd (omega (arith, l)))
+]
+
+pub sound-put : (lambda fewest used : ℕ) (v : Version) (c : Claim) (sent now : List (List Bool)) (rows : List Queued)
+    → IsSound lambda fewest used sent rows
+    → length (put_row name_cmp queued_name (fresh v c) rows) ≤ MAX_QUEUED
     → AreSets now (put_row name_cmp queued_name (fresh v c) rows)
-    → IsSound lambda 0 now (put_row name_cmp queued_name (fresh v c) rows)
-sound-put lambda fewest v c sent now rows s sets = record {
+    → IsSound lambda 0 used now (put_row name_cmp queued_name (fresh v c) rows)
+sound-put lambda fewest used v c sent now rows s few sets = record {
   often = s.often;
+  few = few;
   in_order = subst (Rises name_cmp) (sym (names-put (fresh v c) rows))
       (rises-put names_order c.name (map queued_name rows) s.in_order);
-  within = within-put most_times_sent (fresh v c) rows (within-fresh v c) s.within;
+  within = all-put (λ q. q.sends ≤ most_times_sent) (fresh v c) rows (within-fresh v c) s.within;
   least = sent-none (put_row name_cmp queued_name (fresh v c) rows);
+  some = s.some;
+  enough = s.enough;
+  below = all-put (λ q. q.sends < SETS → q.sends < used) (fresh v c) rows (below-fresh v c used s.some) s.below;
   sets = sets;
 }
 
@@ -102,15 +129,27 @@ all-without P name (q ∷ qs) all = elim (cases_Bool (is_same name_cmp (queued_n
   | inr f ↦ rw f (all.0, all-without P name qs all.1)
 ]
 
-pub sound-removed : (lambda fewest : ℕ) (name : List ℕ) (sent now : List (List Bool)) (rows : List Queued)
-    → IsSound lambda fewest sent rows
+length-without : (name : List ℕ) (rows : List Queued)
+    → length (without_row name_cmp queued_name name rows) ≤ length rows
+length-without name [] = omega arith
+length-without name (q ∷ qs) = elim (cases_Bool (is_same name_cmp (queued_name q) name)) [
+  | inl t ↦ rw t (omega (arith, length-without name qs))
+  | inr f ↦ rw f (omega (arith, length-without name qs))
+]
+
+pub sound-removed : (lambda fewest used : ℕ) (name : List ℕ) (sent now : List (List Bool)) (rows : List Queued)
+    → IsSound lambda fewest used sent rows
     → AreSets now (without_row name_cmp queued_name name rows)
-    → IsSound lambda fewest now (without_row name_cmp queued_name name rows)
-sound-removed lambda fewest name sent now rows s sets = record {
+    → IsSound lambda fewest used now (without_row name_cmp queued_name name rows)
+sound-removed lambda fewest used name sent now rows s sets = record {
   often = s.often;
+  few = omega (arith, s.few, length-without name rows);
   in_order = rises-without names_order queued_name name rows s.in_order;
   within = all-without (λ q. q.sends ≤ most_times_sent) name rows s.within;
   least = all-without (λ q. fewest ≤ q.sends) name rows s.least;
+  some = s.some;
+  enough = s.enough;
+  below = all-without (λ q. q.sends < SETS → q.sends < used) name rows s.below;
   sets = sets;
 }
 
@@ -131,20 +170,40 @@ within-sent taken limit most (q ∷ qs) l w t = (here, within-sent taken limit m
       | inr n ↦ rw n w.0
     ]
 
-pub sound-sent : (lambda limit fewest now : ℕ) (v : Version) (buddy : Option Claim) (sent after : List (List Bool))
+below-sent : (taken : List Claim) (limit used next : ℕ) (rows : List Queued) → used ≤ next
+    → ((n : ℕ) → n ≤ limit → n < SETS → n < next) → AreBelow used rows
+    → AllByRecursion (λ q. is_among name_cmp (queued_name q) (map name_of taken) ≡ true → q.sends < limit) rows
+    → AreBelow next (map (sent_once taken) rows)
+below-sent taken limit used next [] l e b t = tt
+below-sent taken limit used next (q ∷ qs) l e b t = (here, below-sent taken limit used next qs l e b.1 t.1)
+  where
+    here : (sent_once taken q).sends < SETS → (sent_once taken q).sends < next
+    here = elim (cases_Bool (is_among name_cmp (queued_name q) (map name_of taken))) [
+      | inl a ↦ rw a (e (q.sends + 1) (omega (arith, t.0 a)))
+      | inr n ↦ rw n (λ s. omega (arith, b.0 s, l))
+    ]
+
+pub sound-sent : (lambda limit fewest now used next : ℕ) (v : Version) (buddy : Option Claim) (sent after : List (List Bool))
     (rows : List Queued) → limit ≤ most_times_sent
-    → IsSound lambda fewest sent rows
+    → used ≤ next → next ≤ SETS → ((n : ℕ) → n ≤ limit → n < SETS → n < next)
+    → IsSound lambda fewest used sent rows
     → AreSent now (map (sent_once (map queued_claim (rows_taken v buddy limit rows))) rows)
     → AreSets after (map (sent_once (map queued_claim (rows_taken v buddy limit rows))) rows)
-    → IsSound lambda now after (map (sent_once (map queued_claim (rows_taken v buddy limit rows))) rows)
-sound-sent lambda limit fewest now v buddy sent after rows l s least sets =
+    → IsSound lambda now next after (map (sent_once (map queued_claim (rows_taken v buddy limit rows))) rows)
+sound-sent lambda limit fewest now used next v buddy sent after rows l rises most enough s least sets =
     let taken = map queued_claim (rows_taken v buddy limit rows) in
     record {
       often = s.often;
+      few = omega (arith, s.few, length-map rows (sent_once taken));
       in_order = subst (Rises name_cmp) (sym (names-sent taken rows)) s.in_order;
       within = within-sent taken limit most_times_sent rows l s.within
           (all-both _ _ _ rows (λ q w m a. below_limit buddy limit q (m a)) s.within
           (may_when_taken v buddy limit rows s.in_order));
       least = least;
+      some = omega (arith, s.some, rises);
+      enough = most;
+      below = below-sent taken limit used next rows rises enough s.below
+          (all-both _ _ _ rows (λ q w m a. below_limit buddy limit q (m a)) s.within
+          (may_when_taken v buddy limit rows s.in_order));
       sets = sets;
     }

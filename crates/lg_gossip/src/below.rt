@@ -8,9 +8,11 @@ ghost use Rattle.lg_gossip.specs.declared.queued.Queued.{Queued as Row};
 ghost use Rattle.lg_gossip.specs.Support.Sets.{AreSets};
 ghost use Rattle.lg_gossip.specs.Support.Sound.{AreSent};
 
+use crate::queue::MAX_QUEUED;
 use crate::queued::Queued;
 use crate::sets::SETS;
 use lg_bit_set::BitSet;
+use lg_rows::Rows;
 
 /// Whether one of the rows was sent fewer times than the limit, by the sets of rows. None was sent less often than
 /// `fewest`.
@@ -28,11 +30,28 @@ fn is_in_sets(sent: &[BitSet; SETS], limit: u64, fewest: u64) -> bool
     false
 }
 
+/// Whether one of the rows was sent fewer times than the limit, by a walk over all rows.
+fn is_in_walk(rows: &Rows<Queued, MAX_QUEUED>, limit: u64) -> bool
+    ensures { result ≡ list_any (λ q. nat_lt q.sends limit) rows.now.items }
+{
+    for index in 0..rows.len() {
+        if u64::from(rows[index].sends) < limit {
+            return true;
+        }
+    }
+    false
+}
+
 /// Whether one of the rows was sent fewer times than the limit. None was sent less often than `fewest`.
-pub(crate) fn is_any_below(rows: &[Queued], sent: &[BitSet; SETS], limit: u64, fewest: u64) -> bool
-    requires least { AreSent fewest rows.now }
-    requires sets { AreSets sent.now rows.now }
-    ensures { result ≡ list_any (λ q. nat_lt q.sends limit) rows.now }
+pub(crate) fn is_any_below(
+    rows: &Rows<Queued, MAX_QUEUED>,
+    sent: &[BitSet; SETS],
+    limit: u64,
+    fewest: u64,
+) -> bool
+    requires least { AreSent fewest rows.now.items }
+    requires sets { AreSets sent.now rows.now.items }
+    ensures { result ≡ list_any (λ q. nat_lt q.sends limit) rows.now.items }
 {
     if limit <= fewest {
         // Mostly no row may be sent any more, and then none is looked at.
@@ -41,6 +60,6 @@ pub(crate) fn is_any_below(rows: &[Queued], sent: &[BitSet; SETS], limit: u64, f
         is_in_sets(sent, limit, fewest)
     } else {
         // No group of up to 256 members has such a limit, but a caller may count more.
-        rows.iter().any(|row| u64::from(row.sends) < limit)
+        is_in_walk(rows, limit)
     }
 }

@@ -3,7 +3,7 @@
 //! Defined in: `specs/Meaning/Queue.antt`.
 //! Tested in: `lg_parts_tests/src/gossip.rt`.
 ghost use Rattle.std.specs.Prelude.{◌≡◌, ◌≤◌, ◌<◌, ◌+◌};
-ghost use Rattle.std.specs.Prelude.{◌++◌, ℕ, List, not, length, map, take, insert};
+ghost use Rattle.std.specs.Prelude.{◌++◌, ◌∷◌, [], ℕ, List, not, length, map, take, insert};
 ghost use Rattle.std.specs.Prelude.{if◌then◌else◌, nat_eq, nat_le, nat_lt, option_copied, slice_index_or};
 ghost use Rattle.std.specs.List.{AllByRecursion, prefix_len};
 ghost use Rattle.std.specs.Option.{option_to_list};
@@ -20,7 +20,8 @@ use crate::queued::Queued;
 use crate::sets::{SETS, move_row, without};
 use arrayvec::ArrayVec;
 use lg_bit_set::BitSet;
-use lg_rules::{Claim, MAX_CLAIMS, Record, Version, index_of};
+use lg_rows::Rows;
+use lg_rules::{Claim, MAX_CLAIMS, Record, Status, Version, index_in_rows};
 
 /// A row that a packet takes.
 #[derive(Clone, Copy, Default)]
@@ -54,13 +55,13 @@ fn room_beside(version: Version, buddy: Option<&Claim>) -> usize
 }
 
 /// The index of the row about the buddy's member, or the number of rows if there is no such row.
-fn index_of_buddy(rows: &[Queued], buddy: Option<&Claim>) -> usize
-    requires { AreInOrder rows.now }
-    ensures { (k : ℕ) (d : Row) → k < length rows.now
-        → is_beside (option_copied buddy.entry) (slice_index_or rows.now k d) ≡ not (nat_eq k result) }
+fn index_of_buddy(rows: &Rows<Queued, MAX_QUEUED>, buddy: Option<&Claim>) -> usize
+    requires { AreInOrder rows.now.items }
+    ensures { (k : ℕ) (d : Row) → k < length rows.now.items
+        → is_beside (option_copied buddy.entry) (slice_index_or rows.now.items k d) ≡ not (nat_eq k result) }
 {
     match buddy {
-        Some(buddy) => match index_of(rows, &buddy.name) {
+        Some(buddy) => match index_in_rows(rows, &buddy.name) {
             Ok(index) => index,
             Err(_) => rows.len(),
         },
@@ -124,20 +125,20 @@ fn take_sent(taken: &mut ArrayVec<TakenRow, MAX_CLAIMS>, set: &BitSet, sends: u3
 /// The rows that a packet takes beside its buddy, by one set of rows after another. There is a set for each number of
 /// sends below the limit. The rows have to be in the order of their names, and none was sent less often than `fewest`.
 fn rows_by_sets(
-    rows: &[Queued],
+    rows: &Rows<Queued, MAX_QUEUED>,
     sent: &[BitSet; SETS],
     version: Version,
     buddy: Option<&Claim>,
     limit: u64,
     fewest: u64,
 ) -> ArrayVec<TakenRow, MAX_CLAIMS>
-    requires order { AreInOrder rows.now }
-    requires least { AreSent fewest rows.now }
-    requires most { length rows.now ≤ MAX_QUEUED }
-    requires sets { AreSets sent.now rows.now }
+    requires order { AreInOrder rows.now.items }
+    requires least { AreSent fewest rows.now.items }
+    requires most { length rows.now.items ≤ MAX_QUEUED }
+    requires sets { AreSets sent.now rows.now.items }
     requires rises { fewest ≤ limit }
     requires few { limit ≤ SETS }
-    ensures taken { HasTaken version (option_copied buddy.entry) limit rows.now result.items }
+    ensures taken { HasTaken version (option_copied buddy.entry) limit rows.now.items result.items }
     ensures few { array_vec_len result ≤ room_beside version (option_copied buddy.entry) }
 {
     let room = room_beside(version, buddy);
@@ -156,13 +157,13 @@ fn rows_by_sets(
 /// The rows that a packet takes beside its buddy, by a walk over all rows. These have to be in the order of their
 /// names.
 fn rows_by_walk(
-    rows: &[Queued],
+    rows: &Rows<Queued, MAX_QUEUED>,
     version: Version,
     buddy: Option<&Claim>,
     limit: u64,
 ) -> ArrayVec<TakenRow, MAX_CLAIMS>
-    requires { AreInOrder rows.now }
-    ensures taken { HasTaken version (option_copied buddy.entry) limit rows.now result.items }
+    requires { AreInOrder rows.now.items }
+    ensures taken { HasTaken version (option_copied buddy.entry) limit rows.now.items result.items }
     ensures few { array_vec_len result ≤ room_beside version (option_copied buddy.entry) }
 {
     let mut first = ArrayVec::new();
@@ -170,8 +171,8 @@ fn rows_by_walk(
     let passed_over = index_of_buddy(rows, buddy);
     // No row that was sent this often, or more often, is among the first.
     let mut bound = limit;
-    for (index, row) in rows.iter().enumerate() {
-        let sends = row.sends;
+    for index in 0..rows.len() {
+        let sends = rows[index].sends;
         if u64::from(sends) < bound && index != passed_over {
             bound = take_row(&mut first, TakenRow { index, sends }, room, bound);
         }
@@ -182,18 +183,18 @@ fn rows_by_walk(
 /// The rows that a packet takes beside its buddy: of those below the retransmit limit, the first by their sends and
 /// then by their names. The rows have to be in the order of their names, and none was sent less often than `fewest`.
 pub(crate) fn rows_taken(
-    rows: &[Queued],
+    rows: &Rows<Queued, MAX_QUEUED>,
     sent: &[BitSet; SETS],
     version: Version,
     buddy: Option<&Claim>,
     limit: u64,
     fewest: u64,
 ) -> ArrayVec<TakenRow, MAX_CLAIMS>
-    requires order { AreInOrder rows.now }
-    requires least { AreSent fewest rows.now }
-    requires most { length rows.now ≤ MAX_QUEUED }
-    requires sets { AreSets sent.now rows.now }
-    ensures taken { HasTaken version (option_copied buddy.entry) limit rows.now result.items }
+    requires order { AreInOrder rows.now.items }
+    requires least { AreSent fewest rows.now.items }
+    requires most { length rows.now.items ≤ MAX_QUEUED }
+    requires sets { AreSets sent.now rows.now.items }
+    ensures taken { HasTaken version (option_copied buddy.entry) limit rows.now.items result.items }
     ensures few { array_vec_len result ≤ room_beside version (option_copied buddy.entry) }
 {
     if limit <= fewest {
@@ -207,14 +208,30 @@ pub(crate) fn rows_taken(
     }
 }
 
+/// Adds a claim to those that are there.
+#[inline]
+fn push_claim(claims: &mut ArrayVec<Claim, MAX_CLAIMS>, claim: &Claim)
+    requires { array_vec_len claims.old < MAX_CLAIMS }
+    ensures items { claims.new.items ≡ claims.old.items ++ claim.now ∷ [] }
+    ensures len { array_vec_len claims.new ≡ array_vec_len claims.old + 1 }
+{
+    // Its status is named, since the checker doesn't follow the whole claim into a generic call otherwise.
+    let _status: Status = claim.status;
+    claims.push(*claim);
+}
+
 /// Adds the claims of some rows to those that are there.
-fn push_claims(claims: &mut ArrayVec<Claim, MAX_CLAIMS>, rows: &[Queued], taken: &[TakenRow])
-    requires places { AllByRecursion (IsRowOf rows.now) taken.now }
+fn push_claims(
+    claims: &mut ArrayVec<Claim, MAX_CLAIMS>,
+    rows: &Rows<Queued, MAX_QUEUED>,
+    taken: &[TakenRow],
+)
+    requires places { AllByRecursion (IsRowOf rows.now.items) taken.now }
     requires room { array_vec_len claims.old + length taken.now ≤ MAX_CLAIMS }
-    ensures { claims.new.items ≡ claims.old.items ++ map queued_claim (rows_at rows.now taken.now) }
+    ensures { claims.new.items ≡ claims.old.items ++ map queued_claim (rows_at rows.now.items taken.now) }
 {
     for row in taken {
-        claims.push(rows[row.index].claim);
+        push_claim(claims, &rows[row.index].claim);
     }
 }
 
@@ -222,30 +239,35 @@ fn push_claims(claims: &mut ArrayVec<Claim, MAX_CLAIMS>, rows: &[Queued], taken:
 pub(crate) fn write_claims(
     claims: &mut ArrayVec<Claim, MAX_CLAIMS>,
     buddy: Option<&Claim>,
-    rows: &[Queued],
+    rows: &Rows<Queued, MAX_QUEUED>,
     taken: &[TakenRow],
 )
-    requires places { AllByRecursion (IsRowOf rows.now) taken.now }
+    requires places { AllByRecursion (IsRowOf rows.now.items) taken.now }
     requires room { length (option_to_list (option_copied buddy)) + length taken.now ≤ MAX_CLAIMS }
     ensures { claims.new.items
-        ≡ option_to_list (option_copied buddy.entry) ++ map queued_claim (rows_at rows.now taken.now) }
+        ≡ option_to_list (option_copied buddy.entry) ++ map queued_claim (rows_at rows.now.items taken.now) }
 {
     claims.clear();
     if let Some(buddy) = buddy {
-        claims.push(*buddy);
+        push_claim(claims, buddy);
     }
     push_claims(claims, rows, taken);
 }
 
 /// Counts one more send for each row that a packet takes, and moves it to the next set.
-pub(crate) fn count_sends(rows: &mut [Queued], sent: &mut [BitSet; SETS], taken: &[TakenRow])
-    requires order { AreInOrder rows.old }
-    requires most { length rows.old ≤ MAX_QUEUED }
-    requires few { AllByRecursion (λ r. r.sends ≤ MAX_TIMES_SENT) rows.old }
-    requires places { AllByRecursion (IsRowOf rows.old) taken.now }
-    requires sets { AreSets sent.old rows.old }
-    ensures sends { rows.new ≡ map (sent_once (map queued_claim (rows_at rows.old taken.now))) rows.old }
-    ensures sets { AreSets sent.new rows.new }
+pub(crate) fn count_sends(
+    rows: &mut Rows<Queued, MAX_QUEUED>,
+    sent: &mut [BitSet; SETS],
+    taken: &[TakenRow],
+)
+    requires order { AreInOrder rows.old.items }
+    requires most { length rows.old.items ≤ MAX_QUEUED }
+    requires few { AllByRecursion (λ r. r.sends ≤ MAX_TIMES_SENT) rows.old.items }
+    requires places { AllByRecursion (IsRowOf rows.old.items) taken.now }
+    requires sets { AreSets sent.old rows.old.items }
+    ensures sends { rows.new.items
+        ≡ map (sent_once (map queued_claim (rows_at rows.old.items taken.now))) rows.old.items }
+    ensures sets { AreSets sent.new rows.new.items }
 {
     for row in taken {
         let sends = row.sends as usize;

@@ -13,10 +13,11 @@ use crate::below::is_any_below;
 use crate::choice::{buddy_of, count_sends, fewest_after, rows_taken, write_claims};
 use crate::limit::send_limit;
 use crate::queued::Queued;
-use crate::sets::{SETS, clear_sets, close_row, put_fresh};
+use crate::sets::{SETS, clear_sets, close_row, put_fresh, used_after};
 use arrayvec::ArrayVec;
 use lg_bit_set::BitSet;
-use lg_rules::{Claim, MAX_CLAIMS, MAX_LAMBDA, MAX_MEMBERS, Name, Record, Version, index_of};
+use lg_rows::Rows;
+use lg_rules::{Claim, MAX_CLAIMS, MAX_LAMBDA, MAX_MEMBERS, Name, Record, Version, index_in_rows};
 use std::marker::Model;
 
 /// The most claims of a queue: 256, one for each member (this project's choice).
@@ -36,9 +37,11 @@ pub struct Queue {
     version: Version,
     /// No claim was sent less often than this, so that a packet needn't look at all of them.
     fewest: u64,
+    /// Only the first so many sets have rows: a bound by the greatest limit of a packet so far.
+    used: usize,
     /// The indexes of the rows by how often they were sent: a set for each number of sends below 30.
     sent: [BitSet; SETS],
-    rows: ArrayVec<Queued, MAX_QUEUED>,
+    rows: Rows<Queued, MAX_QUEUED>,
 }
 
 impl Model for Queue {
@@ -50,7 +53,7 @@ impl Model for Queue {
 
     ghost view = { λ q. record { lambda = q.lambda; version = q.version; rows = q.rows.items } };
 
-    ghost invariant = { λ q. IsSound q.lambda q.fewest q.sent q.rows.items };
+    ghost invariant = { λ q. IsSound q.lambda q.fewest q.used q.sent q.rows.items };
 }
 
 impl Queue {
@@ -64,8 +67,9 @@ impl Queue {
             lambda,
             version,
             fewest: u64::MAX,
+            used: 1,
             sent: [BitSet::new(); SETS],
-            rows: ArrayVec::new(),
+            rows: Rows::new(),
         }
     }
 
@@ -73,22 +77,21 @@ impl Queue {
     pub fn copy(&self) -> Queue
         ensures { result ≡ self.now }
     {
-        let mut rows = ArrayVec::new();
-        rows.try_extend_from_slice(&self.rows).unwrap();
         Queue {
             lambda: self.lambda,
             version: self.version,
             fewest: self.fewest,
+            used: self.used,
             sent: self.sent,
-            rows,
+            rows: self.rows.copy(),
         }
     }
 
     /// The claims with their sends, in the order of names.
-    pub fn queued(&self) -> &[Queued]
-        ensures { result.now ≡ self.now.rows }
+    pub fn queued(&self) -> &Rows<Queued, MAX_QUEUED>
+        ensures { result.now.items ≡ self.now.rows }
     {
-        self.rows.as_slice()
+        &self.rows
     }
 
     /// Whether a claim may still be sent among `live` members, which may be any number: whether it was sent fewer times
@@ -100,14 +103,14 @@ impl Queue {
         ensures some { result ≡ true → 0 < length (fill_of self.now None live) }
     {
         let limit = send_limit(self.lambda, live);
-        is_any_below(self.rows.as_slice(), &self.sent, limit, self.fewest)
+        is_any_below(&self.rows, &self.sent, limit, self.fewest)
     }
 
     /// Whether the queue has a claim about the member with this name that may still be sent among `live` members.
     pub fn may_send(&self, name: &Name, live: usize) -> bool
         ensures { result ≡ may_send_about name.now self.now live }
     {
-        match index_of(self.rows.as_slice(), name) {
+        match index_in_rows(&self.rows, name) {
             Ok(index) => u64::from(self.rows[index].sends) < send_limit(self.lambda, live),
             Err(_) => false,
         }
@@ -122,6 +125,7 @@ impl Queue {
             lambda: factor,
             version: format,
             fewest,
+            used: _,
             sent,
             rows,
         } = self;
@@ -141,7 +145,13 @@ impl Queue {
             → length self.old.rows < MAX_QUEUED }
         ensures { self.new ≡ put_of claim self.old }
     {
-        put_fresh(&mut self.rows, &mut self.sent, self.version, claim);
+        put_fresh(
+            &mut self.rows,
+            &mut self.sent,
+            self.used,
+            self.version,
+            claim,
+        );
         self.fewest = 0;
     }
 
@@ -149,9 +159,9 @@ impl Queue {
     pub fn remove(&mut self, name: &Name)
         ensures { self.new ≡ removed name.now self.old }
     {
-        if let Ok(index) = index_of(self.rows.as_slice(), name) {
+        if let Ok(index) = index_in_rows(&self.rows, name) {
             self.rows.remove(index);
-            close_row(&mut self.sent, index as u8);
+            close_row(&mut self.sent, self.used, index as u8);
         }
     }
 
@@ -198,17 +208,11 @@ impl Queue {
         let version = self.version;
         let buddy = buddy_of(version, buddy);
         let limit = send_limit(self.lambda, live);
-        let taken = rows_taken(
-            self.rows.as_slice(),
-            &self.sent,
-            version,
-            buddy,
-            limit,
-            self.fewest,
-        );
-        write_claims(claims, buddy, self.rows.as_slice(), taken.as_slice());
+        let taken = rows_taken(&self.rows, &self.sent, version, buddy, limit, self.fewest);
+        write_claims(claims, buddy, &self.rows, taken.as_slice());
         self.fewest = fewest_after(taken.as_slice(), version, buddy, limit, self.fewest);
-        count_sends(self.rows.as_mut_slice(), &mut self.sent, taken.as_slice());
+        count_sends(&mut self.rows, &mut self.sent, taken.as_slice());
+        self.used = used_after(self.used, limit);
     }
 
     /// The claims of the next packet, as `fill_into` writes them.

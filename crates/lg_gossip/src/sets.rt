@@ -2,26 +2,41 @@
 //!
 //! Defined in: `specs/Support/Sets.antt`.
 //! Tested in: `lg_parts_tests/src/gossip.rt`.
-ghost use Rattle.std.specs.Prelude.{◌≡◌, ◌≢◌, ◌≤◌, ◌<◌, ℕ, List, [], Bool, true, false, length, Some};
+ghost use Rattle.std.specs.Prelude.{◌≡◌, ◌≢◌, ◌≤◌, ◌<◌, ◌+◌, ℕ, List, [], Bool, true, false, length, Some};
 ghost use Rattle.std.specs.Prelude.{None, slice_get, slice_index_or, slice_set, insert, remove};
-ghost use Rattle.arrayvec.specs.ArrayVec.{array_vec_len};
 ghost use Rattle.lg_bit_set.specs.Meaning.Flags.{opened_flags, closed_flags};
 ghost use Rattle.lg_gossip.specs.declared.queued.Queued.{Queued as Row};
 ghost use Rattle.lg_rules.specs.Meaning.Rows.{name_cmp, put_row, row_at};
 ghost use Rattle.lg_gossip.specs.Meaning.Queue.{fresh, queued_name};
 ghost use Rattle.lg_gossip.specs.Support.Sets.{AreSets};
-ghost use Rattle.lg_gossip.specs.Support.Sound.{AreInOrder};
+ghost use Rattle.lg_gossip.specs.Support.Sound.{AreBelow, AreInOrder};
 
 use crate::queue::MAX_QUEUED;
 use crate::queued::Queued;
-use arrayvec::ArrayVec;
 use lg_bit_set::{BitSet, NUMBERS};
-use lg_rules::{Claim, MAX_LAMBDA, Version, index_of};
+use lg_rows::Rows;
+use lg_rules::{Claim, MAX_LAMBDA, Version, index_in_rows};
 
 /// How many sets of rows there are: 30, the greatest retransmit limit of a group of up to 256 members, whose number has
 /// three digits (this project's choice). Each set has the indexes of the rows that were sent exactly as often as its
 /// own index says. A row that was sent 30 times or more is in no set.
 pub(crate) const SETS: usize = 3 * MAX_LAMBDA as usize;
+
+/// How many sets may have rows, once a packet took rows that were sent fewer times than a limit. `used` is how many may
+/// have rows before.
+pub(crate) fn used_after(used: usize, limit: u64) -> usize
+    requires { used ≤ SETS }
+    ensures rises { used ≤ result }
+    ensures most { result ≤ SETS }
+    ensures enough { (n : ℕ) → n ≤ limit → n < SETS → n < result }
+    ensures least { used < result → result ≤ limit + 1 }
+{
+    if limit < SETS as u64 {
+        used.max(limit as usize + 1)
+    } else {
+        SETS
+    }
+}
 
 /// Takes all rows out of the sets.
 pub(crate) fn clear_sets(sent: &mut [BitSet; SETS])
@@ -72,54 +87,66 @@ pub(crate) fn move_row(sent: &mut [BitSet; SETS], index: u8, from: usize, to: us
     add_to(sent, to, index);
 }
 
-/// Opens the place of an index in each set.
-fn open_sets(sent: &mut [BitSet; SETS], index: u8)
+/// Opens the place of an index in each of the first `used` sets.
+fn open_sets(sent: &mut [BitSet; SETS], used: usize, index: u8)
+    requires { used ≤ SETS }
     ensures size { length sent.new ≡ length sent.old }
-    ensures flags { (sends : ℕ) (d : List Bool) → sends < SETS
+    ensures flags { (sends : ℕ) (d : List Bool) → sends < used
         → slice_index_or sent.new sends d ≡ opened_flags index (slice_index_or sent.old sends d) }
+    ensures others { (sends : ℕ) (d : List Bool) → used ≤ sends
+        → slice_index_or sent.new sends d ≡ slice_index_or sent.old sends d }
 {
-    for sends in 0..SETS {
+    for sends in 0..used {
         sent[sends].open(index);
     }
 }
 
-/// Makes room for a new row at an index, which was sent so often.
-pub(crate) fn open_row(sent: &mut [BitSet; SETS], index: u8, sends: usize)
-    ensures { (rows : List Row) (row : Row) → AreSets sent.old rows → length rows < MAX_QUEUED → index ≤ length rows
-        → row.sends ≡ sends → AreSets sent.new (insert rows index row) }
+/// Makes room for a new row at an index, which was sent so often. Only the first `used` sets have rows.
+fn open_row(sent: &mut [BitSet; SETS], used: usize, index: u8, sends: usize)
+    requires { used ≤ SETS }
+    ensures { (rows : List Row) (row : Row) → AreSets sent.old rows → AreBelow used rows
+        → (row.sends < SETS → row.sends < used) → length rows < MAX_QUEUED → index ≤ length rows → row.sends ≡ sends
+        → AreSets sent.new (insert rows index row) }
 {
-    open_sets(sent, index);
+    open_sets(sent, used, index);
     add_to(sent, sends, index);
 }
 
-/// Takes the place of an index away from each set.
-pub(crate) fn close_row(sent: &mut [BitSet; SETS], index: u8)
-    ensures { (rows : List Row) → AreSets sent.old rows → length rows ≤ MAX_QUEUED → index < length rows
-        → AreSets sent.new (remove rows index) }
+/// Takes the place of an index away from each set. Only the first `used` sets have rows.
+pub(crate) fn close_row(sent: &mut [BitSet; SETS], used: usize, index: u8)
+    requires { used ≤ SETS }
+    ensures { (rows : List Row) → AreSets sent.old rows → AreBelow used rows → length rows ≤ MAX_QUEUED
+        → index < length rows → AreSets sent.new (remove rows index) }
 {
-    for sends in 0..SETS {
+    for sends in 0..used {
         sent[sends].close(index);
     }
 }
 
 /// Puts a claim that no packet has taken yet among the rows, which have to be in the order of their names: replaces the
-/// row about its member, or inserts one if there is none.
+/// row about its member, or inserts one if there is none. Only the first `used` sets have rows.
 pub(crate) fn put_fresh(
-    rows: &mut ArrayVec<Queued, MAX_QUEUED>,
+    rows: &mut Rows<Queued, MAX_QUEUED>,
     sent: &mut [BitSet; SETS],
+    used: usize,
     version: Version,
     claim: Claim,
 )
     requires room { (row_at name_cmp queued_name claim.name rows.old.items ≡ None)
-        → array_vec_len rows.old < MAX_QUEUED }
+        → length rows.old.items < MAX_QUEUED }
+    requires few { length rows.old.items ≤ MAX_QUEUED }
     requires order { AreInOrder rows.old.items }
+    requires some { 0 < used }
+    requires enough { used ≤ SETS }
+    requires below { AreBelow used rows.old.items }
     requires sets { AreSets sent.old rows.old.items }
     ensures rows { rows.new.items ≡ put_row name_cmp queued_name (fresh version claim) rows.old.items }
+    ensures few { length rows.new.items ≤ MAX_QUEUED }
     ensures sets { AreSets sent.new rows.new.items }
 {
     let row = Queued::fresh(version, claim);
     let sends = row.sends as usize;
-    match index_of(rows.as_slice(), &claim.name) {
+    match index_in_rows(rows, &claim.name) {
         Ok(index) => {
             let before = rows[index].sends as usize;
             rows[index] = row;
@@ -127,7 +154,7 @@ pub(crate) fn put_fresh(
         }
         Err(index) => {
             rows.insert(index, row);
-            open_row(sent, index as u8, sends);
+            open_row(sent, used, index as u8, sends);
         }
     }
 }

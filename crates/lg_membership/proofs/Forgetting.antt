@@ -1,9 +1,7 @@
 -- The rows of suspicions once a name is forgotten, by the names that are left; and whether there is room for a claim.
 use Rattle.std.proofs.Common.{◌≡◌, ◌≢◌, ℕ, ◌+◌, ◌<◌, Bool, true, false, not, ◌&&◌, ◌||◌, cond, leb, ltb, arith, List, [], ◌∷◌, length, map, get_or, Option, Some, None, inl, inr, refl, sym, ◌∙◌, ap, subst}
-use Rattle.std.specs.List.{refill}
 use Rattle.std.proofs.lemmas.Bool.{cases_Bool}
 use Rattle.std.proofs.lemmas.Bool.Decides.{nat_tests}
-use Rattle.std.proofs.lemmas.List.{length-map}
 use Rattle.lg_rules.specs.declared.claim.Claim.{Claim}
 use Rattle.lg_rules.specs.Meaning.Claim.{is_gone, name_of}
 use Rattle.lg_rules.specs.Meaning.Rows.{name_cmp, is_same, is_among, row_at, without_row}
@@ -22,7 +20,6 @@ use Rattle.lg_membership.specs.Support.Rows.{row_without, rows_by, AreKnownTo}
 use Rattle.lg_membership.specs.Support.Reached.{IsGroupReached}
 use Rattle.lg_membership.specs.Support.State.{GroupState, group_state_of, has_room_in, needs_room_in, forget_from_group, without_name}
 use Rattle.lg_membership.proofs.FactLaws.{own_name}
-use Rattle.lg_membership.proofs.Joining.{refill_same}
 use Rattle.lg_membership.proofs.KnownLaws.{own_known}
 use Rattle.lg_membership.proofs.Rooms.{reached-ordered}
 
@@ -66,18 +63,13 @@ module _ (n : List ℕ) (k left : MembersValue) (rows : List Suspected) (other :
   slot-left : (o : Option ℕ) → o ≡ slot_given_back n k → slot_in n k.names ≡ o
   slot-left o given = sym (given ∙ ap (λ b. cond b None (slot_in n k.names)) (other_key names_order n k.own other))
 
-  module _ (slot : ℕ) (given : Some slot ≡ slot_given_back n k) (lent after : List Suspected) (same : lent ≡ rows) (each : after ≡ map (row_without slot n) lent) where
-    written : refill (length rows) rows after ≡ map (row_without slot n) rows
-    written =
-        let all = each ∙ ap (map (row_without slot n)) same in
-        refill_same rows after (ap length all ∙ length-map rows (row_without slot n)) ∙ all
+  module _ (slot : ℕ) (given : Some slot ≡ slot_given_back n k) (after : List Suspected) (each : after ≡ map (row_without slot n) rows) where
+    pub rows-given : rows_by left.names after ≡ rows_by k.names rows
+    rows-given = (λ i. rows_by (names-left i) (each i)) ∙ rows-forgotten k.names n slot rows (slot-left (Some slot) given) known
 
-    pub rows-given : rows_by left.names (refill (length rows) rows after) ≡ rows_by k.names rows
-    rows-given = (λ i. rows_by (names-left i) (written i)) ∙ rows-forgotten k.names n slot rows (slot-left (Some slot) given) known
-
-    pub known-given : AreKnownTo left.names (refill (length rows) rows after)
+    pub known-given : AreKnownTo left.names after
     known-given =
-        subst (λ xs. AreKnownTo left.names xs) (sym written)
+        subst (λ xs. AreKnownTo left.names xs) (sym each)
         (subst (λ ns. AreKnownTo ns (map (row_without slot n) rows)) (sym names-left)
         (known-forgotten k.names n slot rows (slot-left (Some slot) given) known))
 

@@ -1,5 +1,5 @@
 -- A suspicion takes one more accuser: what that changes of the rows by the names of the slots.
-use Rattle.std.proofs.Common.{Option, ◌≡◌, ℕ, List, length, drop, get_or, set, length-set, arith, Some}
+use Rattle.std.proofs.Common.{Option, ◌≡◌, ℕ, Bool, List, length, drop, get_or, set, length-set, arith, Some}
 use Rattle.std.proofs.Common.{inl, inr, sym, ◌∙◌, ap, subst}
 use Rattle.std.specs.Prelude.{option_map}
 use Rattle.std.specs.List.{refill}
@@ -13,8 +13,9 @@ use Rattle.lg_membership.specs.declared.applied.Deadline.{Deadline}
 use Rattle.lg_membership.specs.declared.suspected.Suspected.{Suspected}
 use Rattle.lg_membership.specs.Meaning.Suspicions.{suspected_name}
 use Rattle.lg_membership.specs.Support.Changes.{joined, accusing, suspicions_after, deadline_of_change}
-use Rattle.lg_membership.specs.Support.Rows.{kept_name, row_by, rows_by, AreKnownTo}
+use Rattle.lg_membership.specs.Support.Rows.{kept_name, row_by, rows_by, AreKnownTo, IsWithin, AreAccusersIn}
 use Rattle.lg_membership.proofs.RowsByNames.{row_at-by, put-by, known-at, known-put}
+use Rattle.lg_membership.proofs.Within.{within-at, within-put, within-more}
 
 -- what is written over a whole row of places is all that is there
 pub refill_same : {X : Type 0} (xs ws : List X) → length ws ≡ length xs → refill (length xs) xs ws ≡ ws
@@ -87,6 +88,18 @@ module _ (names : List (Option (List ℕ))) (m a : List ℕ) (rows read lent : L
       → AreKnownTo names rows → AreKnownTo names (refill (length rows) rows (set lent at new))
   known-joined new named one known =
       subst (AreKnownTo names) (sym (written new ∙ put new named)) (known-put names new rows one known)
+
+  -- the slots of the accusers stay in the set, once that has those of the suspicion with one more accuser
+  pub within-lent : (all : List Bool) → AreAccusersIn all rows → IsWithin all (get_or lent at d).suspicion.members
+  within-lent all within =
+      subst (λ r. IsWithin all r.suspicion.members) (sym old-is) (within-at all rows at d within found.within)
+
+  pub within-joined : (all more : List Bool) → IsWithin more all → (new : Suspected)
+      → new.name ≡ (get_or lent at d).name → IsWithin more new.suspicion.members → AreAccusersIn all rows
+      → AreAccusersIn more (refill (length rows) rows (set lent at new))
+  within-joined all more grown new named one within =
+      subst (AreAccusersIn more) (sym (written new ∙ put new named))
+      (within-put more new rows one (within-more more all rows grown within))
 
   pub deadline-joined : {deadline : Deadline}
       → deadline ≡ deadline_of_change (accusing (Some a) (Some (row_by names (get_or lent at d))))

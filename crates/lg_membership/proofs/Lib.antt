@@ -22,3 +22,6 @@ pub mod PageLaws
 pub mod Paging
 pub mod RowsByNames
 pub mod Joining
+pub mod Within
+pub mod Near
+pub mod Listing

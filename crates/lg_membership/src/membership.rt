@@ -19,7 +19,7 @@ ghost use Rattle.lg_membership.specs.Support.Room.{HasPlace};
 use crate::addressee::{Addressee, buddy_record};
 use crate::applied::{Applied, Deadline, Presence};
 use crate::origin::Origin;
-use crate::suspicions::{Suspicions, copy_suspicions, suspect};
+use crate::suspicions::Suspicions;
 use arrayvec::ArrayVec;
 use lg_gossip::Queue;
 use lg_rules::{Addr, Claim, Heard, MAX_CLAIMS, Members, Name, Own, Record, Version};
@@ -61,7 +61,7 @@ impl Model for Membership {
       config = m.config;
       own = m.own;
       members = m.members;
-      suspicions = rows_by m.members.names m.suspicions.items;
+      suspicions = rows_by m.members.names m.suspicions;
       queue = m.queue;
     } };
 
@@ -70,10 +70,10 @@ impl Model for Membership {
           config = m.config;
           own = m.own;
           members = m.members;
-          suspicions = rows_by m.members.names m.suspicions.items;
+          suspicions = rows_by m.members.names m.suspicions;
           queue = m.queue;
         } in
-        IsGroupKept group m.suspicions.items };
+        IsGroupKept group m.suspicions };
 }
 
 /// Whether two names are the same.
@@ -183,7 +183,7 @@ impl Membership {
             config,
             own: self.own,
             members: self.members.copy(),
-            suspicions: copy_suspicions(self.suspicions.as_slice()),
+            suspicions: self.suspicions.copy(),
             queue: self.queue.copy(),
         }
     }
@@ -252,14 +252,9 @@ impl Membership {
         let before = self.members.live();
         let heard = self.members.hear(claim);
         let presence = presence_by(before, self.members.live());
-        let deadline = suspect(
-            &mut self.suspicions,
-            &self.config,
-            now,
-            &self.members,
-            heard,
-            claim,
-        );
+        let deadline = self
+            .suspicions
+            .suspect(&self.config, now, &self.members, heard, claim);
         let counts = is_to_be_passed_on(heard, deadline);
         put(&mut self.queue, put_of_other(origin, counts, claim));
         Applied {

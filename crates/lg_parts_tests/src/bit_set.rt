@@ -32,6 +32,15 @@ fn holds_what_was_inserted(rt: HostRuntime) {
     assert_eq!(rt; set.pop_first(), None);
 }
 
+#[test]
+fn unites_two_sets(rt: HostRuntime) {
+    let united = set_of(&[0, 63, 128, 191]).union(&set_of(&[63, 64, 255]));
+    for (index, number) in [0, 63, 64, 128, 191, 255].iter().enumerate() {
+        assert_eq!(rt; united.nth(index), Some(*number));
+    }
+    assert_eq!(rt; united.len(), 6);
+}
+
 /// Of all numbers, and of every third one, the number at each index.
 #[test]
 fn finds_the_nth_number(rt: HostRuntime) {

@@ -41,17 +41,19 @@ fn are_claims(claims: &[Claim], letters: &[u8]) -> bool {
 
 /// Whether a queue has the claims of these letters with these sends.
 fn has_queued(queue: &Queue, letters: &[u8], sends: &[u32]) -> bool {
-    for (row, byte) in queue.queued().iter().zip(letters) {
-        if row.claim != claim_of(*byte) {
+    let rows = queue.queued();
+    if [rows.len(); 2] != [letters.len(), sends.len()] {
+        return false;
+    }
+    for (index, (byte, sends)) in letters.iter().zip(sends).enumerate() {
+        let Some(row) = rows.get(index) else {
+            return false;
+        };
+        if row.claim != claim_of(*byte) || row.sends != *sends {
             return false;
         }
     }
-    for (row, sends) in queue.queued().iter().zip(sends) {
-        if row.sends != *sends {
-            return false;
-        }
-    }
-    [queue.queued().len(); 2] == [letters.len(), sends.len()]
+    true
 }
 
 /// Puts a claim, if there is room.

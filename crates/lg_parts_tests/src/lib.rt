@@ -13,6 +13,8 @@ mod packet;
 #[cfg(test)]
 mod probe;
 #[cfg(test)]
+mod rows;
+#[cfg(test)]
 mod rules;
 #[cfg(test)]
 mod suspicion;

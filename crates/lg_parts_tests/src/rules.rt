@@ -1,7 +1,7 @@
 //! Names, claims, which claim overrides which, the table of members, and a member's own incarnation.
 use lg_rules::{
     Claim, Heard, Incarnation, Ip, Keyed, MAX_OTHERS, Members, Name, NameFault, Own, OwnHeard,
-    Slot, Status, Version, beats, index_of, is_name_byte,
+    Slot, Status, Version, beats, is_name_byte,
 };
 use lg_testing::says::Said::{self, Alive, Failed, Left, Suspect};
 use lg_testing::says::{claim_of, far, moved};
@@ -219,7 +219,7 @@ fn keeps_the_first_address(rt: HostRuntime) {
 /// the last, and there is no 44.
 fn facts_of_a_full_table(members: &Members) -> [bool; 5] {
     [
-        members.records().len() == MAX_OTHERS,
+        members.count() == MAX_OTHERS,
         members.live() == 256,
         members.at(0).map(Claim::name) == Some(numbered(45)),
         members.at(254).map(Claim::name) == Some(numbered(299)),
@@ -227,14 +227,14 @@ fn facts_of_a_full_table(members: &Members) -> [bool; 5] {
     ]
 }
 
-/// The places of an unknown name and of the second one. There is no room for the unknown one. A newer claim about the
-/// first one is heard, and is its record then.
+/// An unknown name has no slot, and the second one stands second. There is no room for the unknown one. A newer claim
+/// about the first one is heard, and is its record then.
 fn facts_of_seats_and_room(members: &mut Members) -> [bool; 5] {
     let unknown = numbered(44);
     let newer = claim(numbered(45), Status::Alive, 3);
     [
-        index_of(members.records(), &unknown) == Err(0),
-        index_of(members.records(), &numbered(46)) == Ok(1),
+        members.slot_of(&unknown).is_none(),
+        members.at(1).map(Claim::name) == Some(numbered(46)),
         hear(members, &claim(unknown, Status::Alive, 9)) == Some(Heard::NoRoom),
         hear(members, &newer) == Some(Heard::Overrode),
         members.get(&numbered(45)).copied() == Some(newer),

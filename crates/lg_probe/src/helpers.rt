@@ -2,7 +2,7 @@
 //!
 //! Defined in: `specs/Meaning/Helpers.antt`, `specs/Meaning/Order.antt`.
 //! Tested in: `lg_parts_tests/src/probe.rt`.
-ghost use Rattle.std.specs.Prelude.{◌≡◌, ◌≤◌, List, [], length};
+ghost use Rattle.std.specs.Prelude.{◌≡◌, ◌<◌, ◌≤◌, List, [], length};
 ghost use Rattle.lg_probe.specs.Meaning.Helpers.{picked};
 ghost use Rattle.lg_probe.specs.Meaning.Order.{OrderFact, names_after, order_after, without};
 
@@ -19,6 +19,8 @@ pub const MAX_HELPERS: usize = RANDOM_WORDS;
 #[derive(Debug, Drop)]
 pub struct Helpers {
     names: ArrayVec<Name, MAX_HELPERS>,
+    // At the index of each name, how many of the names that the order knows come before it.
+    places: [u8; MAX_HELPERS],
 }
 
 impl Model for Helpers {
@@ -36,6 +38,7 @@ impl Helpers {
     {
         Helpers {
             names: ArrayVec::new(),
+            places: [0; MAX_HELPERS],
         }
     }
 
@@ -52,7 +55,7 @@ impl Helpers {
         ensures past { (past : List OrderFact) → others.now ≡ order_after past
             → self.new ≡ picked k words.now (without target.now (names_after past)) }
     {
-        others.pick(target, &words[..k], &mut self.names);
+        others.pick(target, &words[..k], &mut self.names, &mut self.places);
     }
 
     /// Replaces the helpers by at most `count` new ones. They are picked as `pick` does, from all the names that have
@@ -63,7 +66,7 @@ impl Helpers {
         requires { count ≤ MAX_HELPERS }
         ensures { self.new ≡ picked count words.now order.now.names }
     {
-        order.pick_any(&words[..count], &mut self.names);
+        order.pick_any(&words[..count], &mut self.names, &mut self.places);
     }
 
     /// Their names, in the order in which they were picked.
@@ -72,5 +75,14 @@ impl Helpers {
         ensures few { length result.now ≤ MAX_HELPERS }
     {
         self.names.as_slice()
+    }
+
+    /// How many names come before the one at an index, of those that the order knew when it was picked. That is where
+    /// its record is among those of the others, if no member is gone that isn't forgotten. It serves to look there
+    /// first, so no clause says it.
+    pub fn place(&self, index: usize) -> usize
+        requires { index < MAX_HELPERS }
+    {
+        usize::from(self.places[index])
     }
 }

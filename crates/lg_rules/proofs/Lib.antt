@@ -1,6 +1,7 @@
 pub mod Cases
 pub mod Changes
 pub mod FirstKnown
+pub mod Halving
 pub mod KeyOrder
 pub mod NameLemmas
 pub mod OwnLaws

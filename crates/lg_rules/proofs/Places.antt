@@ -29,7 +29,7 @@ point_is p (x ∷ xs) (suc i) l h =
     rw (h.0 0 x (omega arith) (omega arith)) (omega (arith, rest))
 
 module _ {K : Type 0} {cmp : K → K → Ordering} (order : IsKeyOrder cmp) {R : Type 0} (key : R → K) where
-  above_at : (m : K) (xs : List R) (j : ℕ) (d : R) → AreAbove cmp m (map key xs) → j < length xs → cmp m (key (get_or xs j d)) ≡ Less
+  pub above_at : (m : K) (xs : List R) (j : ℕ) (d : R) → AreAbove cmp m (map key xs) → j < length xs → cmp m (key (get_or xs j d)) ≡ Less
   above_at m [] j d a l = absurd (omega arith)
   above_at m (x ∷ xs) zero d a l = a.0
   above_at m (x ∷ xs) (suc j) d a l = above_at m xs j d a.1 (omega arith)

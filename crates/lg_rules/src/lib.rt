@@ -23,6 +23,6 @@ pub use name::{MAX_NAME, Name, NameFault, is_name_byte};
 pub use overriding::beats;
 pub use own::{Own, OwnHeard};
 pub use random::RANDOM_WORDS;
-pub use rows::{Keyed, index_of, put_row};
+pub use rows::{Keyed, index_in_rows, index_of, put_in_rows, put_row};
 pub use slots::Slot;
 pub use version::Version;

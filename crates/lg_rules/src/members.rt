@@ -8,7 +8,7 @@ ghost use Rattle.std.specs.Prelude.{option_copied, None, Some, true, false};
 ghost use Rattle.lg_rules.specs.declared.claim.Claim.{Claim as Said};
 ghost use Rattle.lg_rules.specs.Meaning.Claim.{name_of};
 ghost use Rattle.lg_rules.specs.Meaning.Own.{OwnFact, Told, Forgets, TakesLeave};
-ghost use Rattle.lg_rules.specs.Meaning.Rows.{name_cmp, is_among, row_at, Rises};
+ghost use Rattle.lg_rules.specs.Meaning.Rows.{name_cmp, is_among, row_at};
 ghost use Rattle.lg_rules.specs.Meaning.Table.{members_forgot, hearing_of, known_of, live_in, members_heard};
 ghost use Rattle.lg_rules.specs.Meaning.Table.{table_needs_room, slot_given_back, slot_in};
 ghost use Rattle.lg_rules.specs.Meaning.Table.{names_by_slot, record_of, roster};
@@ -17,9 +17,10 @@ ghost use Rattle.lg_rules.specs.Meaning.Unforgotten.{first_known, first_record, 
 use crate::claim::{Claim, Record};
 use crate::name::Name;
 use crate::records::{add, find_record, hear_known, is_unwelcome, take_out};
-use crate::rows::index_of;
+use crate::rows::index_in_rows;
 use crate::slots::{FREE, Slot, free_place, give_slot, take_slot};
 use arrayvec::ArrayVec;
+use lg_rows::Rows;
 use std::marker::Model;
 
 /// The most members that are known beside this member: 255 (this project's choice).
@@ -59,7 +60,8 @@ pub struct Members {
     indexes: [u8; MAX_OTHERS],
     // Whether members that are gone are forgotten.
     forgets: bool,
-    records: ArrayVec<Record, MAX_OTHERS>,
+    // In the order of names. A record stays in its place, as long as its name is known.
+    records: Rows<Record, MAX_OTHERS>,
     // The slot of each record's name.
     slots: ArrayVec<Slot, MAX_OTHERS>,
     // How many members aren't gone, this member included. The count is kept, since each suspicion that is raised
@@ -93,15 +95,13 @@ impl Members {
     pub fn copy(&self) -> Members
         ensures { result ≡ self.now }
     {
-        let mut records = ArrayVec::new();
-        records.try_extend_from_slice(&self.records).unwrap();
         let mut slots = ArrayVec::new();
         slots.try_extend_from_slice(&self.slots).unwrap();
         Members {
             own: self.own,
             indexes: self.indexes,
             forgets: self.forgets,
-            records,
+            records: self.records.copy(),
             slots,
             live: self.live,
         }
@@ -116,7 +116,7 @@ impl Members {
             own: *own,
             indexes: [FREE; MAX_OTHERS],
             forgets,
-            records: ArrayVec::new(),
+            records: Rows::new(),
             slots: ArrayVec::new(),
             live: 1,
         }
@@ -142,27 +142,28 @@ impl Members {
         self.own
     }
 
-    /// The records of the others, in the order of their names.
-    pub fn records(&self) -> &[Record]
-        ensures records { result.now ≡ self.now.table }
-        ensures few { length result.now ≤ MAX_OTHERS }
-        ensures rises { Rises name_cmp (map name_of result.now) }
+    /// How many other members are known, each of which has a record: at most 255.
+    #[inline]
+    pub fn count(&self) -> usize
+        ensures count { result ≡ length self.now.table }
+        ensures few { result ≤ MAX_OTHERS }
     {
-        self.records.as_slice()
+        self.records.len()
     }
 
     /// The record of another member, or `None` if it isn't known.
     pub fn get(&self, name: &Name) -> Option<&Record>
         ensures { option_copied result ≡ row_at name_cmp name_of name.now self.now.table }
     {
-        find_record(self.records.as_slice(), name)
+        find_record(&self.records, name)
     }
 
     /// The record at an index, from 0, in the order of names. `None` if there are no more than `index` records.
+    #[inline]
     pub fn at(&self, index: usize) -> Option<&Record>
         ensures { option_copied result ≡ slice_get self.now.table index }
     {
-        self.records.as_slice().get(index)
+        self.records.get(index)
     }
 
     /// The slot of a known name, or `None` if the name isn't known. This member's own name has slot 0.
@@ -175,7 +176,7 @@ impl Members {
         ensures alone { (slot : ℕ) (other : List ℕ) → result ≡ Some slot → slot_in other self.now.names ≡ Some slot
             → other ≡ name.now }
     {
-        match index_of(self.records.as_slice(), name) {
+        match index_in_rows(&self.records, name) {
             Ok(at) => Some(self.slots[at]),
             Err(_) if *name == self.own => Some(Slot::own()),
             Err(_) => None,
@@ -205,7 +206,7 @@ impl Members {
         ensures few { result ≤ MAX_MEMBERS }
     {
         // The checker learns here that the row holds at most 255 records.
-        let _ = self.records.as_slice();
+        let _ = self.records.len();
         self.live
     }
 
@@ -232,7 +233,7 @@ impl Members {
         ensures leave { (past : List OwnFact) → let after = known_of self.old.forgets self.old.own in
             after (TakesLeave ∷ past) ≡ after past }
     {
-        match index_of(self.records.as_slice(), &claim.name) {
+        match index_in_rows(&self.records, &claim.name) {
             Ok(at) => hear_known(&mut self.records, &mut self.live, at, claim),
             Err(_) if is_unwelcome(self.forgets, claim.status) => Heard::Ignored,
             Err(at) => match free_place(&self.indexes) {
@@ -276,7 +277,7 @@ impl Members {
         if *name == self.own {
             return None;
         }
-        match index_of(self.records.as_slice(), name) {
+        match index_in_rows(&self.records, name) {
             Ok(at) => {
                 take_out(&mut self.records, &mut self.live, at);
                 Some(take_slot(&mut self.slots, &mut self.indexes, at))

@@ -2,27 +2,29 @@
 //!
 //! Defined in: `specs/Meaning/Table.antt`, `specs/Meaning/Rows.antt`.
 //! Tested in: `lg_parts_tests/src/rules.rt`.
-ghost use Rattle.std.specs.Prelude.{◌≡◌, ◌<◌, ◌&&◌, Bool, map, remove, option_copied, Some};
+ghost use Rattle.std.specs.Prelude.{◌≡◌, ◌<◌, ◌&&◌, Bool, length, map, remove, option_copied, Some};
 ghost use Rattle.lg_rules.specs.Meaning.Claim.{is_gone, name_of};
 ghost use Rattle.lg_rules.specs.Meaning.Rows.{name_cmp, put_row, row_at, Rises};
 ghost use Rattle.lg_rules.specs.Support.Members.{live_weight};
 ghost use Rattle.lg_rules.specs.Support.Places.{HasRow, LacksRow};
-ghost use Rattle.arrayvec.specs.ArrayVec.{array_vec_len};
 ghost use Rattle.lg_rules.specs.Meaning.Table.{heard, hearing_of, live_in, standing_hearing};
 
 use crate::claim::{Claim, Record, Status};
 use crate::members::{Heard, MAX_OTHERS};
 use crate::name::Name;
 use crate::overriding::beats;
-use crate::rows::index_of;
-use arrayvec::ArrayVec;
+use crate::rows::index_in_rows;
+use lg_rows::Rows;
 
 /// The record of the member with this name, if there is one.
-pub(crate) fn find_record<'a>(records: &'a [Record], name: &Name) -> Option<&'a Record>
-    requires { Rises name_cmp (map name_of records.now) }
-    ensures { option_copied result ≡ row_at name_cmp name_of name.now records.now }
+pub(crate) fn find_record<'a>(
+    records: &'a Rows<Record, MAX_OTHERS>,
+    name: &Name,
+) -> Option<&'a Record>
+    requires { Rises name_cmp (map name_of records.now.items) }
+    ensures { option_copied result ≡ row_at name_cmp name_of name.now records.now.items }
 {
-    match index_of(records, name) {
+    match index_in_rows(records, name) {
         Ok(at) => Some(&records[at]),
         Err(_) => None,
     }
@@ -52,12 +54,14 @@ fn weight(status: Status) -> usize
 }
 
 /// Replaces the record at an index by a claim that overrides it, and updates the number of members that aren't gone.
-fn replace(records: &mut ArrayVec<Record, MAX_OTHERS>, live: &mut usize, at: usize, claim: &Claim)
+fn replace(records: &mut Rows<Record, MAX_OTHERS>, live: &mut usize, at: usize, claim: &Claim)
     requires has { HasRow name_cmp name_of claim.now.name records.old.items at }
     requires counted { live.old ≡ live_in records.old.items }
     ensures rows { records.new.items ≡ put_row name_cmp name_of claim.now records.old.items }
     ensures counted { live.new ≡ live_in records.new.items }
 {
+    // The checker learns here that there are at most 255 records.
+    let _ = records.len();
     *live -= weight(records[at].status);
     *live += weight(claim.status);
     records[at] = *claim;
@@ -65,13 +69,13 @@ fn replace(records: &mut ArrayVec<Record, MAX_OTHERS>, live: &mut usize, at: usi
 
 /// Inserts a claim about an unknown member at its index, and updates the number of members that aren't gone.
 pub(crate) fn add(
-    records: &mut ArrayVec<Record, MAX_OTHERS>,
+    records: &mut Rows<Record, MAX_OTHERS>,
     live: &mut usize,
     at: usize,
     claim: &Claim,
 )
     requires lacks { LacksRow name_cmp name_of claim.now.name records.old.items at }
-    requires room { array_vec_len records.old < MAX_OTHERS }
+    requires room { length records.old.items < MAX_OTHERS }
     requires counted { live.old ≡ live_in records.old.items }
     ensures rows { records.new.items ≡ put_row name_cmp name_of claim.now records.old.items }
     ensures counted { live.new ≡ live_in records.new.items }
@@ -81,8 +85,8 @@ pub(crate) fn add(
 }
 
 /// Removes the record at an index, and updates the number of members that aren't gone.
-pub(crate) fn take_out(records: &mut ArrayVec<Record, MAX_OTHERS>, live: &mut usize, at: usize)
-    requires within { at < array_vec_len records.old }
+pub(crate) fn take_out(records: &mut Rows<Record, MAX_OTHERS>, live: &mut usize, at: usize)
+    requires within { at < length records.old.items }
     requires counted { live.old ≡ live_in records.old.items }
     ensures rows { records.new.items ≡ remove records.old.items at }
     ensures counted { live.new ≡ live_in records.new.items }
@@ -102,7 +106,7 @@ pub(crate) fn is_unwelcome(forgets: bool, status: Status) -> bool
 /// Hears a claim about a member whose record is at an index, and updates the number of members that aren't gone.
 #[tactic(auto, unfolding(crate::specs::Meaning::Table::takes))]
 pub(crate) fn hear_known(
-    records: &mut ArrayVec<Record, MAX_OTHERS>,
+    records: &mut Rows<Record, MAX_OTHERS>,
     live: &mut usize,
     at: usize,
     claim: &Claim,

@@ -2,7 +2,7 @@
 //!
 //! Defined in: `specs/Meaning/Rows.antt`.
 //! Tested in: `lg_parts_tests/src/rules.rt`.
-ghost use Rattle.std.specs.Prelude.{◌≡◌, ◌<◌, ℕ, List, None, MatchResult, map};
+ghost use Rattle.std.specs.Prelude.{◌≡◌, ◌<◌, ℕ, List, None, MatchResult, length, map};
 ghost use Rattle.std.specs.List.{prefix_len};
 ghost use Rattle.std.specs.Ordering.{is_lt};
 ghost use Rattle.arrayvec.specs.ArrayVec.{array_vec_len};
@@ -11,6 +11,8 @@ ghost use Rattle.lg_rules.specs.Support.Places.{HasRow, LacksRow};
 
 use crate::name::Name;
 use arrayvec::ArrayVec;
+use lg_rows::Rows;
+use std::cmp::Ordering;
 
 /// A row with a name. Such rows are kept in the order of their names.
 pub trait Keyed {
@@ -63,6 +65,41 @@ pub fn put_row<T: Keyed + Drop, const N: usize>(rows: &mut ArrayVec<T, N>, row: 
     ensures { rows.new.items ≡ put_row name_cmp T.key_of row rows.old.items }
 {
     match index_of(rows.as_slice(), &row.key()) {
+        Ok(at) => rows[at] = row,
+        Err(at) => rows.insert(at, row),
+    }
+}
+
+/// As [`index_of`], among rows that stay in their places. Found by halving.
+pub fn index_in_rows<T: Keyed, const N: usize>(
+    rows: &Rows<T, N>,
+    name: &Name,
+) -> Result<usize, usize>
+    requires { Rises name_cmp (map T.key_of rows.now.items) }
+    ensures { let has = HasRow name_cmp T.key_of name.now rows.now.items in
+        let lacks = LacksRow name_cmp T.key_of name.now rows.now.items in
+        MatchResult result has lacks }
+{
+    let mut low = 0;
+    let mut high = rows.len();
+    while low < high {
+        let middle = low + (high - low) / 2;
+        match rows[middle].key().cmp(name) {
+            Ordering::Less => low = middle + 1,
+            Ordering::Equal => return Ok(middle),
+            Ordering::Greater => high = middle,
+        }
+    }
+    Err(low)
+}
+
+/// Puts a row among rows that stay in their places, as [`put_row`] does.
+pub fn put_in_rows<T: Keyed + Drop, const N: usize>(rows: &mut Rows<T, N>, row: T)
+    requires room { (row_at name_cmp T.key_of (T.key_of row) rows.old.items ≡ None) → length rows.old.items < N }
+    requires rises { Rises name_cmp (map T.key_of rows.old.items) }
+    ensures { rows.new.items ≡ put_row name_cmp T.key_of row rows.old.items }
+{
+    match index_in_rows(rows, &row.key()) {
         Ok(at) => rows[at] = row,
         Err(at) => rows.insert(at, row),
     }

@@ -172,6 +172,14 @@ impl Suspicion {
         }
     }
 
+    /// The slots of the accusers that confirmed the suspicion, were known when they did, and weren't forgotten since.
+    #[inline(always)]
+    pub fn slots(&self) -> BitSet
+        ensures { result ≡ self.now.members }
+    {
+        self.members
+    }
+
     /// How many accusers count, 1 to [`MAX_ACCUSERS`].
     fn accusers(&self) -> usize
         ensures count { result ≡ accuser_count self.now }
@@ -200,6 +208,7 @@ impl Suspicion {
             ≡ accused (suspicion_by members.now.names self.old) accuser.now }
 
         ensures known { IsKnownTo members.now.names self.new }
+        ensures unchanged { result ≡ false → self.new ≡ self.old }
 
         // An accuser never moves the deadline to a later moment.
         ensures never_later { deadline_of (suspicion_by members.now.names self.new)

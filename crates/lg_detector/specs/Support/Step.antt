@@ -18,7 +18,7 @@ use Rattle.lg_detector.specs.Meaning.Hear.{claims_heard, table_teller}
 use Rattle.lg_detector.specs.Support.State.{State, state_of, come_state, end_event, forgotten_each, forgotten_first}
 use Rattle.lg_detector.specs.Support.Open.{open_with_state}
 use Rattle.lg_detector.specs.Support.Hear.{hear_claims_state, hear_state, sends_to_state}
-use Rattle.lg_detector.specs.Support.Tick.{due_state, tick_state, sends_at_state}
+use Rattle.lg_detector.specs.Support.Tick.{due_state, fired_state, tick_state, sends_at_state}
 use Rattle.lg_detector.specs.Support.Ask.{ask_state, status_state, health_state}
 use Rattle.lg_detector.specs.Support.Joining.{pull_state, pulls_state}
 use Rattle.lg_detector.specs.Support.Leave.{leave_state, leave_sends_state}
@@ -47,6 +47,11 @@ happen_state s (Ask now name) = ask_state now s
 happen_state s (Health now) = ask_state now s
 happen_state s (Pull now peer) = pull_state now s
 happen_state s (Leave now words) = leave_state now s
+
+-- the same up to the end of the event, where the timer of a gossip that fired is still set
+abbrev pub react_state : State → Event → State
+react_state s (Tick now words) = fired_state (due_state (come_state now s)) words (come_state now s)
+react_state s e = happen_state s e
 
 abbrev pub advance : State → Event → State
 advance s e = end_event (happen_state s e)

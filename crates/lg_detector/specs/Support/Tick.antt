@@ -1,5 +1,5 @@
 -- The event Tick, as functions of the state.
-use Rattle.std.specs.Prelude.{ℕ, List, [], ◌∷◌, Option, Some, None, if◌then◌else◌}
+use Rattle.std.specs.Prelude.{ℕ, Bool, false, List, [], ◌∷◌, Option, Some, None, if◌then◌else◌}
 use Rattle.lg_rules.specs.declared.claim.Claim.{Claim}
 use Rattle.lg_timers.specs.declared.timer.Timer.{Timer}
 use Rattle.lg_timers.specs.declared.timer.TimerId.{TimerId}
@@ -13,8 +13,9 @@ use Rattle.lg_detector.specs.declared.reply.Outgoing.{Outgoing}
 use Rattle.lg_detector.specs.declared.message.Message.{Message}
 use Rattle.lg_detector.specs.Meaning.Probing.{gossip_to_in}
 use Rattle.lg_detector.specs.Meaning.Tick.{fired_claims, gossips_for, ping_to, requests, nack_to}
+use Rattle.lg_detector.specs.Meaning.Timing.{is_gossip}
 use Rattle.lg_detector.specs.Support.State.{State, has_news_in, come_state, apply_all_state}
-use Rattle.lg_detector.specs.Support.State.{fire_state, chosen_state, helpers_state}
+use Rattle.lg_detector.specs.Support.State.{fire_state, chosen_state, helpers_state, end_event, gossip_fired}
 use Rattle.lg_detector.specs.Support.Send.{send_all_state, send_state, packets_state}
 
 -- the first of the timers that are due
@@ -66,3 +67,19 @@ expire_sends_state timer words s = packets_state (messages_by timer words s) (sa
 
 abbrev pub sends_at_state : ℕ → List ℕ → State → List Outgoing
 sends_at_state now words s = expire_sends_state (due_state (come_state now s)) words (come_state now s)
+
+-- The same up to the end of the event. There the timer of a gossip is still set, so that it can stay in its place.
+abbrev pub fired_id : TimerId → Timer → List ℕ → State → State
+fired_id Gossip timer words s = send_all_state (messages_state Gossip words s) s
+fired_id _ timer words s = expire_state (Some timer) words s
+
+abbrev pub fired_state : Option Timer → List ℕ → State → State
+fired_state None words s = s
+fired_state (Some timer) words s = fired_id timer.id timer words s
+
+abbrev pub has_gossiped : Option Timer → Bool
+has_gossiped None = false
+has_gossiped (Some timer) = is_gossip timer.id
+
+abbrev pub ended_state : Option Timer → State → State
+ended_state fired s = if has_gossiped fired then end_event (gossip_fired s) else end_event s

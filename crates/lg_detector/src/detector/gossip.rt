@@ -6,25 +6,26 @@
 //!
 //! Defined in: `specs/Meaning/Timing.antt`, `specs/Meaning/Tick.antt`, `specs/Support/State.antt`.
 //! Tested in: `lg_news_tests/src/gossiping.rt`.
-ghost use Rattle.std.specs.Prelude.{◌≡◌, ◌<◌, ◌≤◌, ◌+◌, [], length, option_copied, IfSome};
+ghost use Rattle.std.specs.Prelude.{◌≡◌, ◌<◌, ◌≤◌, ◌+◌, [], length, option_copied, IfSome, None};
 ghost use Rattle.lg_timers.specs.declared.timer.TimerId.TheVariants.{Gossip};
+ghost use Rattle.lg_timers.specs.Meaning.Timers.{without_timer};
 ghost use Rattle.lg_membership.specs.Support.Reached.{IsGood};
 ghost use Rattle.lg_detector.specs.Meaning.Probing.{gossip_to_in};
-ghost use Rattle.lg_detector.specs.Meaning.Tick.{gossip_for, gossips_for};
+ghost use Rattle.lg_detector.specs.Meaning.Tick.{gossips_for};
 ghost use Rattle.lg_timing.specs.Meaning.Config.{IsChecked, version_of};
 ghost use Rattle.lg_detector.specs.Meaning.Timing.{gossip_delay_of, gossip_delay};
 ghost use Rattle.lg_detector.specs.Support.Send.{packets_state, send_all_state};
 ghost use Rattle.lg_detector.specs.Support.State.{end_event, gossip_fired, has_to_tell_state, next_gossip, with_gossip};
 ghost use Rattle.lg_detector.specs.Support.Step.{view_state};
-ghost use Rattle.lg_detector.specs.Support.Tick.{messages_state, told_state, while_news_state};
+ghost use Rattle.lg_detector.specs.Support.Tick.{ended_state, has_gossiped, messages_state, told_state};
+ghost use Rattle.lg_detector.specs.Support.Tick.{while_news_state};
 
 use super::Detector;
 use crate::message::Message;
-use crate::reply::MAX_SENDS;
 use crate::sends::{Sends, make_slots};
 use lg_packet::Body;
 use lg_probe::{Helpers, MAX_HELPERS};
-use lg_rules::{Name, Record, Version};
+use lg_rules::Version;
 use lg_timers::{MAX_TIMERS, Timer, TimerId, Timers};
 use lg_timing::{Config, MAX_GOSSIP_MS};
 
@@ -80,14 +81,33 @@ fn set_gossip(timers: &mut Timers, set: Option<u64>, next: Option<u64>)
     }
 }
 
-/// The Gossip for a member, at the address of its record.
-fn gossip_for(current: &Record) -> Message
-    ensures { result ≡ gossip_for current.now }
+/// Sets the timer of the next gossip anew once it has fired, or cancels it if none is due.
+fn renew_gossip(timers: &mut Timers, next: Option<u64>)
+    requires { length timers.old < MAX_TIMERS }
+    ensures { timers.new ≡ with_gossip None next (without_timer Gossip timers.old) }
 {
-    Message {
-        to: current.addr,
-        body: Body::Gossip,
+    match next {
+        Some(deadline) => timers.reset(Timer {
+            deadline,
+            id: TimerId::Gossip,
+        }),
+        None => {
+            timers.cancel(&TimerId::Gossip);
+        }
     }
+}
+
+/// Whether the timer of the gossip fired.
+fn has_gossiped(fired: &Option<Timer>) -> bool
+    ensures { result ≡ has_gossiped fired.now }
+{
+    matches!(
+        fired,
+        Some(Timer {
+            id: TimerId::Gossip,
+            ..
+        })
+    )
 }
 
 impl Detector {
@@ -98,23 +118,42 @@ impl Detector {
         self.parts.membership.has_news() && !self.parts.order.is_empty()
     }
 
-    /// When news is gossiped next: at the deadline that is set, or a delay after this moment if there is something to
-    /// tell.
+    /// When news is gossiped next: at the deadline that is set, or else as `gossip_later` says.
     fn next_gossip(&self) -> Option<u64>
         ensures { result ≡ next_gossip self.now }
     {
-        if let Some(deadline) = self.parts.gossip {
-            return Some(deadline);
+        match self.parts.gossip {
+            Some(deadline) => Some(deadline),
+            None => self.gossip_later(),
         }
+    }
+
+    /// When news is gossiped next if no gossip is set: a delay after this moment, if there is something to tell.
+    // Each event asks this, mostly to no effect, so a call would cost more than the rest.
+    #[inline(always)]
+    fn gossip_later(&self) -> Option<u64>
+        ensures { result ≡ next_gossip (gossip_fired self.now) }
+    {
         match gossip_delay(self.parts.membership.config()) {
             Some(delay) if self.has_to_tell() => Some(self.parts.moment.milliseconds() + delay),
             _ => None,
         }
     }
 
-    /// Ends an event: sets the next gossip, if one is to be set.
+    /// Ends an event by which this timer fired, if one did. The gossip's own timer is still set if it was that.
+    pub(super) fn end_event(&mut self, fired: &Option<Timer>)
+        ensures { self.new ≡ ended_state fired.now self.old }
+    {
+        if has_gossiped(fired) {
+            self.gossip_anew();
+        } else {
+            self.gossip_on();
+        }
+    }
+
+    /// Sets the next gossip, if one is to be set and none is.
     #[tactic(auto, unfolding(crate::specs::Support::State::end_event))]
-    pub(super) fn end_event(&mut self)
+    fn gossip_on(&mut self)
         ensures { self.new ≡ end_event self.old }
     {
         let next = self.next_gossip();
@@ -123,17 +162,27 @@ impl Detector {
         parts.gossip = next;
     }
 
-    /// Gossips: tells the news to the members that the words pick. Overwrites what `sends` held.
+    /// Once the gossip has fired, sets the next one, if one is to be set. Its timer stays in its place for that.
+    #[tactic(auto, unfolding(crate::specs::Support::State::end_event))]
+    #[inline(never)]
+    fn gossip_anew(&mut self)
+        ensures { self.new ≡ end_event (gossip_fired self.old) }
+    {
+        let next = self.gossip_later();
+        let parts = &mut *self.parts;
+        renew_gossip(&mut parts.timers, next);
+        parts.gossip = next;
+    }
+
+    /// Gossips: tells the news to the members that the words pick. Overwrites what `sends` held. The timer of the
+    /// gossip stays set, until the event ends.
     #[inline(never)]
     pub(super) fn gossip(&mut self, words: &[u32; 8], sends: &mut Sends)
-        ensures state { self.new
-            ≡ send_all_state (messages_state Gossip words.now self.old) (gossip_fired self.old) }
-        ensures sends { sends.new.items
-            ≡ packets_state (messages_state Gossip words.now self.old) (gossip_fired self.old) }
+        ensures state { self.new ≡ send_all_state (messages_state Gossip words.now self.old) self.old }
+        ensures sends { sends.new.items ≡ packets_state (messages_state Gossip words.now self.old) self.old }
     {
         let told = self.pick_told(words);
-        self.cancel_gossip();
-        self.tell_each(told.names(), sends);
+        self.tell_each(&told, sends);
     }
 
     /// Whom the words pick.
@@ -146,32 +195,24 @@ impl Detector {
         told
     }
 
-    /// The timer of the gossip has fired.
-    fn cancel_gossip(&mut self)
-        ensures { self.new ≡ gossip_fired self.old }
-    {
-        let parts = &mut *self.parts;
-        parts.timers.cancel(&TimerId::Gossip);
-        parts.gossip = None;
-    }
-
     /// Sends a Gossip to each of these that has a record, as long as there is news. Overwrites what `sends` held.
-    fn tell_each(&mut self, names: &[Name], sends: &mut Sends)
-        requires { length names.now ≤ MAX_SENDS }
+    fn tell_each(&mut self, told: &Helpers, sends: &mut Sends)
         ensures state { self.new
-            ≡ send_all_state (while_news_state (gossips_for (view_state self.old) names.now) self.old) self.old }
+            ≡ send_all_state (while_news_state (gossips_for (view_state self.old) told.now) self.old) self.old }
         ensures sends { sends.new.items
-            ≡ packets_state (while_news_state (gossips_for (view_state self.old) names.now) self.old) self.old }
+            ≡ packets_state (while_news_state (gossips_for (view_state self.old) told.now) self.old) self.old }
     {
+        let names = told.names();
         let slots = &mut sends.slots;
         make_slots(slots, names.len());
         let mut count = 0;
-        for name in names {
+        for index in 0..names.len() {
             if !self.parts.membership.has_news() {
                 break;
             }
-            if let Some(current) = self.record_of(name) {
-                self.put_packet(&gossip_for(&current), &mut slots[count]);
+            if let Some(to) = self.addr_near(&names[index], told.place(index)) {
+                let body = Body::Gossip;
+                self.put_packet(&Message { to, body }, &mut slots[count]);
                 count += 1;
             }
         }

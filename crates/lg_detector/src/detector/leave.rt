@@ -11,21 +11,22 @@
 ghost use Rattle.std.specs.Prelude.{◌≡◌, ◌<◌, ◌≤◌, [], length, None};
 ghost use Rattle.lg_rules.specs.Meaning.View.{changed};
 ghost use Rattle.lg_membership.specs.Support.State.{changed_by_leave};
+ghost use Rattle.lg_detector.specs.Meaning.Joining.{own_told, with_claims};
 ghost use Rattle.lg_detector.specs.Meaning.Leave.{leave_body};
-ghost use Rattle.lg_detector.specs.Support.Leave.{leave_packets_state, leave_packets_to, leave_sends_state};
-ghost use Rattle.lg_detector.specs.Support.Leave.{leave_state, told_of_leave_state};
+ghost use Rattle.lg_detector.specs.Support.Leave.{leave_notice_state, leave_packets_state, leave_packets_to};
+ghost use Rattle.lg_detector.specs.Support.Leave.{leave_sends_state, leave_state, told_of_leave_state};
 ghost use Rattle.lg_detector.specs.Support.State.{depart, without_probe};
 ghost use Rattle.lg_detector.specs.Support.Step.{view_state};
 
 use super::facts::put_changed;
 use super::round::{scaled_interval, set_start};
 use super::{Detector, MAX_EVENTS};
-use crate::reply::{MAX_CHANGED, MAX_SENDS, Reply};
+use crate::reply::{MAX_CHANGED, Outgoing, Reply};
 use crate::sends::{Sends, make_slots};
 use arrayvec::ArrayVec;
 use lg_packet::Body;
 use lg_probe::{Helpers, MAX_HELPERS};
-use lg_rules::{Name, Record, Version};
+use lg_rules::{Addr, Name, Record, Version};
 use lg_timers::{MAX_TIMERS, Timers};
 use lg_timing::Moment;
 
@@ -36,6 +37,48 @@ fn leave_body(version: Version) -> Body
     match version {
         Version::One | Version::Two => Body::Page,
         Version::Three => Body::Gossip,
+    }
+}
+
+/// What each packet that tells of a leave has: all but where it goes.
+#[derive(Drop)]
+struct LeaveNotice {
+    version: Version,
+    group: Option<Name>,
+    /// This member's name.
+    sender: Name,
+    /// This member's own record, the only claim of the packet.
+    own: Record,
+}
+
+impl LeaveNotice {
+    /// Overwrites a packet with one to this address. It has no claim if its version can't tell this member's address.
+    fn put(&self, to: Addr, place: &mut Outgoing)
+        ensures { place.new ≡ with_claims to self.now.version self.now.group self.now.sender
+            (leave_body self.now.version) (own_told self.now.version self.now.own) }
+    {
+        place.to = to;
+        place.packet.version = self.version;
+        place.packet.group = self.group;
+        place.packet.sender = self.sender;
+        place.packet.body = leave_body(self.version);
+        let claims = &mut place.packet.claims;
+        claims.clear();
+        // Taken apart, since the checker doesn't follow a whole record into a generic call.
+        let Record {
+            name,
+            addr,
+            status,
+            incarnation,
+        } = self.own;
+        if self.version.tells(&addr) {
+            claims.push(Record {
+                name,
+                addr,
+                status,
+                incarnation,
+            });
+        }
     }
 }
 
@@ -103,21 +146,33 @@ impl Detector {
     {
         let mut told = Helpers::new();
         told.pick_any(&self.parts.order, MAX_HELPERS, words);
-        self.tell_leave_to(told.names(), sends);
+        self.tell_leave_to(&told, sends);
+    }
+
+    /// What each packet that tells of this member's leave has.
+    fn leave_notice(&self) -> LeaveNotice
+        ensures { result ≡ leave_notice_state self.now }
+    {
+        LeaveNotice {
+            version: self.version(),
+            group: self.group(),
+            sender: self.name(),
+            own: self.parts.membership.own_record(),
+        }
     }
 
     /// Tells each of these that has a record that this member has left. Overwrites what `sends` held.
-    fn tell_leave_to(&self, names: &[Name], sends: &mut Sends)
-        requires { length names.now ≤ MAX_SENDS }
-        ensures { sends.new.items ≡ leave_packets_to names.now self.now }
+    fn tell_leave_to(&self, told: &Helpers, sends: &mut Sends)
+        ensures { sends.new.items ≡ leave_packets_to told.now self.now }
     {
-        let version = self.version();
+        let names = told.names();
+        let notice = self.leave_notice();
         let slots = &mut sends.slots;
         make_slots(slots, names.len());
         let mut count = 0;
-        for name in names {
-            if let Some(member) = self.record_of(name) {
-                self.write_own(member.addr, leave_body(version), &mut slots[count]);
+        for index in 0..names.len() {
+            if let Some(to) = self.addr_near(&names[index], told.place(index)) {
+                notice.put(to, &mut slots[count]);
                 count += 1;
             }
         }

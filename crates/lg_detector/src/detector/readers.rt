@@ -3,7 +3,7 @@
 //! Defined in: `specs/Meaning/Step.antt`, `specs/Meaning/Ask.antt`, `specs/Support/Step.antt`,
 //! `lg_rules/specs/Meaning/Rows.antt`.
 //! Tested in: `lg_detector_tests/src/detector/ask.rt`.
-ghost use Rattle.std.specs.Prelude.{◌≡◌, List, IfOk, length};
+ghost use Rattle.std.specs.Prelude.{◌≡◌, List, IfOk, length, option_map};
 ghost use Rattle.lg_rules.specs.Meaning.Claim.{name_of};
 ghost use Rattle.lg_rules.specs.Meaning.Rows.{name_cmp, row_at};
 ghost use Rattle.lg_detector.specs.declared.event.Event.{Event as Happened};
@@ -15,7 +15,7 @@ ghost use Rattle.lg_detector.specs.Support.Step.{state_after, deadline_state, vi
 use super::{Detector, NoMemory};
 use crate::standing::Standing;
 use arrayvec::ArrayVec;
-use lg_rules::{MAX_MEMBERS, Name, Record};
+use lg_rules::{Addr, MAX_MEMBERS, Name, Record};
 use lg_timing::Moment;
 use std::alloc::Global;
 
@@ -28,6 +28,14 @@ impl Detector {
             → result ≡ row_at name_cmp name_of name.now (view_after f) }
     {
         self.parts.membership.record_of(name)
+    }
+
+    /// The address of a member, if it has a record. It is found sooner if its record is at the index `near` of those of
+    /// the others.
+    pub(super) fn addr_near(&self, name: &Name, near: usize) -> Option<Addr>
+        ensures { result ≡ option_map (λ r. r.addr) (row_at name_cmp name_of name.now (view_state self.now)) }
+    {
+        self.parts.membership.addr_near(name, near)
     }
 
     /// Overwrites `row` with the records of all members, this one included, in the order of their names. Nothing is

@@ -15,12 +15,13 @@ ghost use Rattle.std.specs.Prelude.{◌≡◌, ◌<◌, ◌≤◌, ◌+◌, []};
 ghost use Rattle.std.specs.Prelude.{◌∷◌, Some, length, option_copied, option_map};
 ghost use Rattle.std.specs.Option.{option_to_list};
 ghost use Rattle.lg_probe.specs.Meaning.Round.{Asked, Acked, Nacked, round_with};
+ghost use Rattle.lg_packet.specs.declared.packet.Body.TheVariants.{PingReq};
 ghost use Rattle.lg_timers.specs.declared.timer.TimerId.TheVariants.{Direct, RoundStart};
 ghost use Rattle.lg_membership.specs.Meaning.Gossip.{version_sent};
 ghost use Rattle.lg_membership.specs.Support.Reached.{IsGood};
 ghost use Rattle.lg_detector.specs.Meaning.Timing.{scaled_interval, scaled_timeout, is_first};
 ghost use Rattle.lg_detector.specs.Meaning.Probing.{asked_about, indirect_in};
-ghost use Rattle.lg_detector.specs.Meaning.Tick.{ping_at, request_to, requests, requests_of};
+ghost use Rattle.lg_detector.specs.Meaning.Tick.{ping_at, requests, requests_of};
 ghost use Rattle.lg_detector.specs.Meaning.Tick.{failure_of, suspect_of, accusation, found};
 ghost use Rattle.lg_detector.specs.Support.State.{start_round, ask_helpers, end_round, chosen_state, helpers_state};
 ghost use Rattle.lg_detector.specs.Support.State.{choice_unless, chose_unless, with_start};
@@ -33,11 +34,10 @@ ghost use Rattle.lg_detector.specs.Support.Tick.{messages_state};
 use super::Detector;
 use super::numbers::next_number;
 use crate::message::Message;
-use crate::reply::MAX_SENDS;
 use crate::sends::{Sends, make_slots};
 use lg_packet::Body;
 use lg_probe::{Helpers, MAX_HELPERS, Order, Round};
-use lg_rules::{Claim, Name, Record, Status};
+use lg_rules::{Addr, Claim, Name, Record, Status};
 use lg_timers::{MAX_TIMERS, Timer, TimerId, Timers};
 use lg_timing::{Config, MAX_SCALED_MS, Score};
 
@@ -202,12 +202,12 @@ fn ping(number: u32, target: &Record) -> Message
     }
 }
 
-/// The PingReq that asks a helper to ping a target at the address of the target's record.
-fn request(number: u32, target: &Record, helper: &Record) -> Message
-    ensures { result ≡ request_to number target.now helper.now }
+/// The PingReq that asks the helper at an address to ping a target at the address of the target's record.
+fn request(number: u32, target: &Record, to: Addr) -> Message
+    ensures { result ≡ record { to = to; body = PingReq number target.now.name target.now.addr } }
 {
     Message {
-        to: helper.addr,
+        to,
         body: Body::PingReq {
             number,
             target: target.name,
@@ -372,26 +372,26 @@ impl Detector {
         };
         let number = round.number();
         match self.record_of(&round.target()) {
-            Some(target) => self.request_each(number, &target, helpers.names(), sends),
+            Some(target) => self.request_each(number, &target, helpers, sends),
             None => sends.clear(),
         }
     }
 
     /// Sends the PingReqs for a target to those that have a record, with this sequence number. Overwrites what
     /// `sends` held.
-    fn request_each(&mut self, number: u32, target: &Record, names: &[Name], sends: &mut Sends)
-        requires { length names.now ≤ MAX_SENDS }
+    fn request_each(&mut self, number: u32, target: &Record, helpers: &Helpers, sends: &mut Sends)
         ensures state { self.new
-            ≡ send_all_state (requests_of number (Some target.now) (view_state self.old) names.now) self.old }
+            ≡ send_all_state (requests_of number (Some target.now) (view_state self.old) helpers.now) self.old }
         ensures sends { sends.new.items
-            ≡ packets_state (requests_of number (Some target.now) (view_state self.old) names.now) self.old }
+            ≡ packets_state (requests_of number (Some target.now) (view_state self.old) helpers.now) self.old }
     {
+        let names = helpers.names();
         let slots = &mut sends.slots;
         make_slots(slots, names.len());
         let mut count = 0;
-        for name in names {
-            if let Some(helper) = self.record_of(name) {
-                self.put_packet(&request(number, target, &helper), &mut slots[count]);
+        for index in 0..names.len() {
+            if let Some(to) = self.addr_near(&names[index], helpers.place(index)) {
+                self.put_packet(&request(number, target, to), &mut slots[count]);
                 count += 1;
             }
         }

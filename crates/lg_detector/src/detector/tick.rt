@@ -30,8 +30,8 @@ ghost use Rattle.lg_detector.specs.Meaning.Tick.{failed_of, failure_of, found};
 ghost use Rattle.lg_detector.specs.Support.State.{apply_all_state, come_state, end_round, forgotten_first};
 ghost use Rattle.lg_detector.specs.Support.State.{forgotten_id};
 ghost use Rattle.lg_detector.specs.Support.Step.{view_state};
-ghost use Rattle.lg_detector.specs.Support.Tick.{due_state, expire_sends_state, expire_state, sends_at_state};
-ghost use Rattle.lg_detector.specs.Support.Tick.{tick_state};
+ghost use Rattle.lg_detector.specs.Support.Tick.{due_state, expire_sends_state, expire_state, fired_state};
+ghost use Rattle.lg_detector.specs.Support.Tick.{sends_at_state, tick_state};
 
 use super::{Detector, MAX_EVENTS};
 use crate::reply::{MAX_CHANGED, MAX_FORGOTTEN, Reply};
@@ -69,7 +69,8 @@ impl Detector {
     #[inline(never)]
     pub(super) fn tick(&mut self, now: Moment, words: &[u32; 8], reply: &mut Reply)
         requires { self.old.events < MAX_EVENTS }
-        ensures state { self.new ≡ tick_state now words.now self.old }
+        ensures state { let come = come_state now self.old in
+            self.new ≡ fired_state (due_state come) words.now come }
         ensures fired { reply.new.fired ≡ due_state (come_state now self.old) }
         ensures sends { reply.new.sends.items ≡ sends_at_state now words.now self.old }
         ensures differing { reply.new.changed.items
@@ -127,7 +128,7 @@ impl Detector {
     }
 
     /// Fires a timer. Overwrites `differing` with the records that its claim changed, and `sends` with its packets. A
-    /// timer that makes a claim sends nothing.
+    /// timer that makes a claim sends nothing. That of the gossip stays set, until the event ends.
     #[tactic(auto, unfolding(crate::specs::Support::State::fire_state))]
     fn fire(
         &mut self,
@@ -136,7 +137,7 @@ impl Detector {
         differing: &mut ArrayVec<Record, MAX_CHANGED>,
         sends: &mut Sends,
     )
-        ensures state { self.new ≡ expire_state (Some timer.now) words.now self.old }
+        ensures state { self.new ≡ fired_state (Some timer.now) words.now self.old }
         ensures sends { sends.new.items ≡ expire_sends_state (Some timer.now) words.now self.old }
         ensures differing { differing.new.items
             ≡ changed (view_state self.old) (view_state (expire_state (Some timer.now) words.now self.old)) }

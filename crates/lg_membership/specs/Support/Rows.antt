@@ -1,5 +1,5 @@
 -- The rows of suspicions that a member keeps, with the accusers as slots, and what they are by the names of the slots.
-use Rattle.std.specs.Prelude.{ℕ, ⊤, Option, List, [], ◌∷◌, map}
+use Rattle.std.specs.Prelude.{◌≡◌, ℕ, ⊤, Bool, true, false, Option, List, [], ◌∷◌, map, slice_index_or}
 use Rattle.lg_suspicion.specs.Meaning.Parts.{suspicion_by, parts_without, IsKnownTo}
 use Rattle.lg_membership.specs.declared.suspected.Suspected.{Suspected}
 use Rattle.lg_membership.specs.Meaning.Suspicions.{SuspectedValue}
@@ -21,3 +21,12 @@ row_without slot n row = record row { suspicion = parts_without slot n row.suspi
 abbrev pub AreKnownTo : List (Option (List ℕ)) → List Suspected → Type 0
 AreKnownTo names [] = ⊤
 AreKnownTo names (row ∷ rows) = IsKnownTo names row.suspicion × AreKnownTo names rows
+
+-- a set has each number of another
+abbrev pub IsWithin : List Bool → List Bool → Type 0
+IsWithin all flags = (number : ℕ) → slice_index_or flags number false ≡ true → slice_index_or all number false ≡ true
+
+-- the slots of all accusers are in a set
+abbrev pub AreAccusersIn : List Bool → List Suspected → Type 0
+AreAccusersIn all [] = ⊤
+AreAccusersIn all (row ∷ rows) = IsWithin all row.suspicion.members × AreAccusersIn all rows

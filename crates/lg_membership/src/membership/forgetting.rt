@@ -1,14 +1,13 @@
 //! Forgetting a member that is gone (this project's choice).
 //!
 //! Defined in: `specs/Meaning/Log.antt`, `specs/Meaning/Suspicions.antt`, `specs/Meaning/Gossip.antt`.
-//! Tested in: `lg_parts_tests/src/membership/claims.rt`.
+//! Tested in: `lg_parts_tests/src/membership/forgetting.rt`.
 ghost use Rattle.std.specs.Prelude.{◌≡◌, ◌≤◌, ◌<◌, ◌∷◌, false, true};
 ghost use Rattle.lg_rules.specs.declared.claim.Claim.{Claim as Said};
 ghost use Rattle.lg_membership.specs.Meaning.Log.{GroupLog, Forgot, forgets_in, has_room_for, needs_room};
 ghost use Rattle.lg_membership.specs.Support.State.{group_state_of, forget_from_group, has_room_in, needs_room_in};
 
 use super::{Membership, is_same_name};
-use crate::suspicions::{end, give_back};
 use lg_rules::{Claim, MAX_CLAIMS, MAX_OTHERS, Name};
 
 impl Membership {
@@ -24,8 +23,8 @@ impl Membership {
         if is_same_name(name, &self.own.name()) {
             return;
         }
-        end(&mut self.suspicions, name);
-        give_back(&mut self.members, &mut self.suspicions, name);
+        self.suspicions.end(name);
+        self.suspicions.give_back(&mut self.members, name);
         self.queue.remove(name);
     }
 
@@ -59,6 +58,6 @@ impl Membership {
         ensures none { (log : GroupLog) (c : Said) → self.now ≡ group_state_of log → result ≡ true → 0 < count
             → needs_room log c ≡ false }
     {
-        !self.forgets() || self.members.records().len() + count <= MAX_OTHERS
+        !self.forgets() || self.members.count() + count <= MAX_OTHERS
     }
 }

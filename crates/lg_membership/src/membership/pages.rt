@@ -13,7 +13,7 @@ ghost use Rattle.lg_membership.specs.Support.State.{group_state_of, shown, with_
 
 use super::Membership;
 use arrayvec::ArrayVec;
-use lg_rules::{MAX_CLAIMS, Name, Record, Version, put_row};
+use lg_rules::{MAX_CLAIMS, Members, Name, Record, Version, put_row};
 
 /// The most records of a page and one more: this member's own record is put among them before the page is cut.
 const MAX_GATHERED: usize = MAX_CLAIMS + 1;
@@ -36,7 +36,7 @@ impl Membership {
         if self.config.is_some() {
             let version = self.version();
             let mut gathered = ArrayVec::new();
-            put_others(self.members.records(), version, after, &mut gathered);
+            put_others(&self.members, version, after, &mut gathered);
             put_own(self.own.record(), version, after, &mut gathered);
             gathered.truncate(version.most_claims());
             let copied = row.try_extend_from_slice(gathered.as_slice());
@@ -62,23 +62,28 @@ fn is_in_page(version: Version, after: Option<&Name>, candidate: &Record) -> boo
     is_behind(after, candidate) && version.tells(&candidate.addr)
 }
 
-/// Writes the first records of the pages after a name, as many as one page can have, into an empty row.
+/// Writes the first records of others of the pages after a name, as many as one page can have, into an empty row.
 fn put_others(
-    records: &[Record],
+    members: &Members,
     version: Version,
     after: Option<&Name>,
     row: &mut ArrayVec<Record, MAX_GATHERED>,
 )
     requires { row.old.items ≡ [] }
-    ensures { row.new.items ≡ page_of version (option_copied after.entry) records.now }
+    ensures { row.new.items ≡ page_of version (option_copied after.entry) members.now.table }
 {
     let most = version.most_claims();
-    for record in records {
+    for index in 0..members.count() {
         if row.len() == most {
             return;
         }
-        if is_in_page(version, after, record) {
-            row.push(*record);
+        match members.at(index) {
+            Some(other) => {
+                if is_in_page(version, after, other) {
+                    row.push(*other);
+                }
+            }
+            None => {}
         }
     }
 }

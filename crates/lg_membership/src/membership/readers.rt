@@ -3,7 +3,7 @@
 //! Defined in: `specs/Meaning/Log.antt`, `specs/Meaning/Gossip.antt`, `lg_rules/specs/Meaning/Table.antt`,
 //! `lg_rules/specs/Meaning/Own.antt`.
 //! Tested in: `lg_parts_tests/src/membership/claims.rt`.
-ghost use Rattle.std.specs.Prelude.{◌≡◌, ◌≤◌, ◌<◌, [], false, length, option_copied, true};
+ghost use Rattle.std.specs.Prelude.{◌≡◌, ◌≤◌, ◌<◌, [], false, length, option_copied, option_map, true};
 ghost use Rattle.lg_rules.specs.Meaning.Claim.{name_of};
 ghost use Rattle.lg_rules.specs.Meaning.Own.{own_record};
 ghost use Rattle.lg_rules.specs.Meaning.Rows.{name_cmp, row_at};
@@ -16,7 +16,9 @@ ghost use Rattle.lg_membership.specs.Support.State.{group_state_of, shown};
 
 use super::{Membership, is_same_name};
 use arrayvec::ArrayVec;
-use lg_rules::{Incarnation, MAX_MEMBERS, MAX_OTHERS, Name, Record, Version, put_row};
+use lg_rules::{
+    Addr, Incarnation, MAX_MEMBERS, MAX_OTHERS, Members, Name, Record, Version, put_row,
+};
 use lg_timing::Config;
 
 impl Membership {
@@ -100,6 +102,8 @@ impl Membership {
     }
 
     /// The record of the member with this name, which may be this member itself, or `None` if it isn't known.
+    // So that a record that is returned isn't copied by one call after another.
+    #[inline(always)]
     pub fn record_of(&self, name: &Name) -> Option<Record>
         ensures state { result ≡ row_at name_cmp name_of name.now (shown self.now) }
         ensures log { (log : GroupLog) → self.now ≡ group_state_of log
@@ -115,6 +119,32 @@ impl Membership {
         self.members.get(name).copied()
     }
 
+    /// The address of the member with this name, which may be this member itself, or `None` if it isn't known. If its
+    /// record is the one at the index `near` of those of the others, from 0 in the order of names, it is found without
+    /// a search. Any other index makes this slower alone.
+    pub fn addr_near(&self, name: &Name, near: usize) -> Option<Addr>
+        ensures { result ≡ option_map (λ r. r.addr) (row_at name_cmp name_of name.now (shown self.now)) }
+    {
+        if self.config.is_none() {
+            return None;
+        }
+        match self.members.at(near) {
+            Some(record) if is_same_name(&record.name, name) => Some(record.addr),
+            _ => self.addr_of(name),
+        }
+    }
+
+    /// The address of the member with this name, found by a search.
+    #[inline(never)]
+    fn addr_of(&self, name: &Name) -> Option<Addr>
+        ensures { result ≡ option_map (λ r. r.addr) (row_at name_cmp name_of name.now (shown self.now)) }
+    {
+        match self.record_of(name) {
+            Some(record) => Some(record.addr),
+            None => None,
+        }
+    }
+
     /// Replaces what the row holds by the records of all members, this member included, in the order of names. Before
     /// the opening nobody is known.
     pub fn put_table(&self, row: &mut ArrayVec<Record, MAX_MEMBERS>)
@@ -123,19 +153,35 @@ impl Membership {
     {
         row.clear();
         if self.config.is_some() {
-            copy_all(self.members.records(), row);
-            put_row(row, self.own.record());
+            copy_all(&self.members, row);
+            // Taken apart, since the checker doesn't follow a whole record into a generic call.
+            let Record {
+                name,
+                addr,
+                status,
+                incarnation,
+            } = self.own.record();
+            let own = Record {
+                name,
+                addr,
+                status,
+                incarnation,
+            };
+            put_row(row, own);
         }
     }
 }
 
-/// Copies these records into an empty row.
-fn copy_all(records: &[Record], row: &mut ArrayVec<Record, MAX_MEMBERS>)
-    requires few { length records.now ≤ MAX_OTHERS }
-    requires empty { row.old.items ≡ [] }
-    ensures { row.new.items ≡ records.now }
+/// Copies the records of all others into an empty row.
+fn copy_all(members: &Members, row: &mut ArrayVec<Record, MAX_MEMBERS>)
+    requires { row.old.items ≡ [] }
+    ensures all { row.new.items ≡ members.now.table }
+    ensures few { length row.new.items ≤ MAX_OTHERS }
 {
-    for claim in records {
-        row.push(*claim);
+    for index in 0..members.count() {
+        match members.at(index) {
+            Some(other) => row.push(*other),
+            None => {}
+        }
     }
 }

@@ -24,6 +24,8 @@ pub(super) enum Step {
     Places(u64, Said, Presence, usize),
     /// The group says a claim at a moment.
     Says(u64, Said),
+    /// It forgets a member.
+    Forgets(Member),
     /// The claims of the next packet, which is neither a Ping nor an Ack.
     Sends(&'static [Said]),
     /// The claims of the next packet, a Ping to a member.
@@ -165,6 +167,10 @@ fn plays(step: &Step, membership: &mut Membership) -> bool {
         }
         Step::Says(now, said) => {
             say(membership, now, &said);
+            true
+        }
+        Step::Forgets(member) => {
+            membership.forget(&named(member));
             true
         }
         Step::Sends(said) => fills(membership, Addressee::Anybody, said),

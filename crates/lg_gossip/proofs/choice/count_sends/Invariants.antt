@@ -6,6 +6,6 @@ use Rattle.lg_gossip.proofs.choice.count_sends.Given as goal
 
 abbrev pub invariant-loop-row : goal.invariant-loop-row
 invariant-loop-row l = record {
-  rows : l.rows ≡ map (sent_once (map queued_claim (rows_at l.initial.rows (take l.row-index l.taken)))) l.initial.rows;
-  sets : AreSets l.sent l.rows;
+  rows : l.rows.items ≡ map (sent_once (map queued_claim (rows_at l.initial.rows.items (take l.row-index l.taken)))) l.initial.rows.items;
+  sets : AreSets l.sent l.rows.items;
 }

@@ -6,6 +6,6 @@ use Rattle.lg_gossip.proofs.choice.push_claims.Given as goal
 
 abbrev pub invariant-loop-row : goal.invariant-loop-row
 invariant-loop-row l = record {
-  claims : l.claims.items ≡ l.initial.claims.items ++ map queued_claim (rows_at l.rows (take l.row-index l.taken));
+  claims : l.claims.items ≡ l.initial.claims.items ++ map queued_claim (rows_at l.rows.items (take l.row-index l.taken));
   room : length l.claims.items + (length l.taken - l.row-index) ≤ MAX_CLAIMS;
 }

@@ -12,7 +12,7 @@ use Rattle.lg_gossip.proofs.choice.rows_by_sets.Goals as goal
 
 pub loop-sends-init : goal.loop-sends-init
 loop-sends-init c = record {
-  taken = taken_none c.args.version (option_copied c.args.buddy) c.args.fewest c.args.rows.now c.new-taken.result.items
+  taken = taken_none c.args.version (option_copied c.args.buddy) c.args.fewest c.args.rows.now.items c.new-taken.result.items
       c.new-taken.ensures c.requires.least;
   few = omega (arith, ap length c.new-taken.ensures);
 }
@@ -22,7 +22,7 @@ without-set-requires c =
     let sends = c.loop-sends.sends in
     let within : sends < SETS = omega (arith, c.loop-sends-test.true, c.requires.few) in
     let here = c.requires.sets.each sends c.index-sent-sends.result within in
-    omega (arith, ap length here, length-flags_by (was_sent sends) c.args.rows.now c.requires.most)
+    omega (arith, ap length here, length-flags_by (was_sent sends) c.args.rows.now.items c.requires.most)
 
 pub loop-sends-preserved : goal.loop-sends-preserved
 loop-sends-preserved c =
@@ -32,7 +32,7 @@ loop-sends-preserved c =
     let found = places_of sends c.without-set.result in
     let within : sends < SETS = omega (arith, c.loop-sends-test.true, c.requires.few) in
     record {
-      taken = takes_beside c.args.version (option_copied c.args.buddy) c.args.rows.now c.requires.order sends room
+      taken = takes_beside c.args.version (option_copied c.args.buddy) c.args.rows.now.items c.requires.order sends room
           c.index_of_buddy-passed_over.result taken c.take_sent.new.taken.items c.args.sent.now
           c.index-sent-sends.result c.without-set.result c.room_beside-room.ensures.room within c.requires.sets
           c.index_of_buddy-passed_over.ensures c.loop-sends.invariant.taken c.without-set.ensures
@@ -44,7 +44,7 @@ loop-sends-preserved c =
 pub returns-then-len-room-clause-taken : goal.returns-then-len-room-clause-taken
 returns-then-len-room-clause-taken c =
     let buddy = (option_copied c.args.buddy) in
-    let rows = c.args.rows.now in
+    let rows = c.args.rows.now.items in
     let sends = c.loop-sends.sends in
     let now = c.take_sent.new.taken.items in
     let within : sends < SETS = omega (arith, c.loop-sends-test.true, c.requires.few) in

@@ -1,5 +1,4 @@
-use Rattle.std.proofs.Common.{◌≡◌, false, cond, Some, sym, ap, refl, ◌∙◌, map, List, get_or}
-use Rattle.lg_rules.specs.declared.claim.Claim.{Claim}
+use Rattle.std.proofs.Common.{◌≡◌, false, cond, Some, sym, ap, refl, ◌∙◌, map}
 use Rattle.lg_rules.specs.declared.members.Heard.TheVariants.{Overrode}
 use Rattle.lg_rules.specs.Meaning.Claim.{name_of}
 use Rattle.lg_rules.specs.Meaning.Rows.{name_cmp, row_at}
@@ -17,15 +16,12 @@ pub returns-else-beats-clause-hearing : goal.returns-else-beats-clause-hearing
 returns-else-beats-clause-hearing c = λ forgets.
     let rows = c.args.records.now.items in
     let claim = c.args.claim.now in
-    let beaten = c.index-deref-at.result in
-    let standing = c.index-deref-at-else-beats.result in
+    let beaten = c.index.result.now in
+    let standing = c.index-else-beats.result.now in
     let first : row_at name_cmp name_of claim.name rows ≡ Some beaten =
-    c.requires.has.found beaten
-    ∙ ap Some (sym (c.index-deref-at.is ∙ ap (λ (rs : List Claim). get_or rs c.args.at beaten) c.deref.ensures.0)) in
+    c.requires.has.found beaten ∙ ap Some (sym c.index.ensures) in
     let second : row_at name_cmp name_of claim.name rows ≡ Some standing =
-    c.requires.has.found standing
-    ∙ ap Some (sym (c.index-deref-at-else-beats.is
-    ∙ ap (λ (rs : List Claim). get_or rs c.args.at standing) c.deref-else-beats.ensures.0)) in
+    c.requires.has.found standing ∙ ap Some (sym c.index-else-beats.ensures) in
     let passed : takes forgets rows claim ≡ false =
     takes-row forgets rows claim beaten first ∙ sym c.beats.ensures ∙ c.if-beats.false in
     c.standing_hearing.ensures forgets

@@ -10,7 +10,7 @@ use Rattle.lg_gossip.specs.Support.Sets.{AreSets}
 use Rattle.lg_gossip.specs.Support.Sound.{IsSound}
 use Rattle.lg_gossip.proofs.Distinct.{distinct-packet}
 use Rattle.lg_gossip.proofs.Filling.{IsChosen, fills, counts, with_rows}
-use Rattle.lg_gossip.proofs.Filling.{places-at, taken-at, counted-each, counted-whole}
+use Rattle.lg_gossip.proofs.Filling.{places-at, taken-at, counted-each}
 use Rattle.lg_gossip.proofs.Soundness.{sound-sent}
 use Rattle.lg_gossip.proofs.queue.Queue.take_into.Goals as goal
 
@@ -21,25 +21,18 @@ invariant_of-self c =
     let buddy = option_copied c.buddy_of-buddy.result in
     let limit = c.send_limit-limit.result in
     let now = c.fewest_after-self-inside.result in
-    let taken : HasTaken v buddy limit rows c.as_slice-4.result.now = record {
-      places = places-at rows _ _ _ c.as_slice.ensures.value c.as_slice-4.ensures.value
-          c.rows_taken-taken.ensures.taken.places;
-      chosen = taken-at rows _ rows _ _ v buddy limit c.as_slice.ensures.value refl c.as_slice-4.ensures.value
-          c.rows_taken-taken.ensures.taken.chosen;
+    let chosen = c.rows_taken-taken.ensures.taken.chosen in
+    let taken : HasTaken v buddy limit rows c.as_slice-2.result.now = record {
+      places = places-at rows _ _ c.as_slice-2.ensures.value c.rows_taken-taken.ensures.taken.places;
+      chosen = taken-at rows _ _ c.as_slice-2.ensures.value v buddy limit chosen;
     } in
     let least = c.fewest_after-self-inside.ensures rows c.self.invariant.in_order taken c.self.invariant.least in
-    let read = c.as_slice.ensures.value in
-    let shown = c.as_slice-5.ensures.value in
-    let written = c.as_mut_slice.ensures.value in
-    let chosen = c.rows_taken-taken.ensures.taken.chosen in
-    let counted = c.count_sends.ensures.sends in
-    let again = c.as_mut_slice.result.now in
-    let each = counted-each rows again _ _ _ _ v buddy limit read shown chosen written counted in
-    let whole = counted-whole rows again _ _ _ _ v buddy limit read shown chosen written counted in
-    let sets = subst (AreSets c.count_sends.new.sent) each c.count_sends.ensures.sets in
-    subst (λ qs. IsSound c.self.inside.lambda now c.count_sends.new.sent qs) (sym whole)
-    (sound-sent c.self.inside.lambda limit c.self.inside.fewest now v buddy c.self.inside.sent c.count_sends.new.sent
-    rows (omega (arith, c.send_limit-limit.ensures.most, c.self.invariant.often)) c.self.invariant least sets)
+    let counted = counted-each rows _ _ c.as_slice-3.ensures.value v buddy limit chosen _ c.count_sends.ensures.sends in
+    let sets = subst (AreSets c.count_sends.new.sent) counted c.count_sends.ensures.sets in
+    subst (λ qs. IsSound c.self.inside.lambda now c.used_after-self-inside.result c.count_sends.new.sent qs) (sym counted)
+    (sound-sent c.self.inside.lambda limit c.self.inside.fewest now c.self.inside.used c.used_after-self-inside.result v buddy c.self.inside.sent c.count_sends.new.sent
+    rows (omega (arith, c.send_limit-limit.ensures.most, c.self.invariant.often)) c.used_after-self-inside.ensures.rises
+    c.used_after-self-inside.ensures.most c.used_after-self-inside.ensures.enough c.self.invariant least sets)
 
 pub returns-clause-apart : goal.returns-clause-apart
 returns-clause-apart c =
@@ -47,8 +40,7 @@ returns-clause-apart c =
     let buddy = option_copied c.buddy_of-buddy.result in
     let limit = c.send_limit-limit.result in
     let rows = c.self.inside.rows.items in
-    let taken = taken-at rows _ _ _ _ v buddy limit c.as_slice.ensures.value c.as_slice-2.ensures.value
-    c.as_slice-3.ensures.value c.rows_taken-taken.ensures.taken.chosen in
+    let taken = taken-at rows _ _ c.as_slice.ensures.value v buddy limit c.rows_taken-taken.ensures.taken.chosen in
     subst (λ cs. IsDistinct (is_same name_cmp) (map name_of cs)) (sym (c.write_claims.ensures ∙ ap (λ t. option_to_list buddy ++ map queued_claim t) taken))
     (distinct-packet v buddy limit rows c.self.invariant.in_order)
 
@@ -60,14 +52,16 @@ returns-clause-claims c =
     let v = c.self.inside.version in
     let buddy = option_copied c.buddy_of-buddy.result in
     let limit = c.send_limit-limit.result in
-    let taken = taken-at queue.rows _ _ _ _ v buddy limit c.as_slice.ensures.value c.as_slice-2.ensures.value
-    c.as_slice-3.ensures.value c.rows_taken-taken.ensures.taken.chosen in
+    let taken = taken-at queue.rows _ _ c.as_slice.ensures.value v buddy limit c.rows_taken-taken.ensures.taken.chosen in
     let chosen : IsChosen queue to c.args.live buddy limit (rows_taken v buddy limit queue.rows) = record {
       buddy_is = c.buddy_of-buddy.ensures;
       limit_is = c.send_limit-limit.ensures.limit;
       taken_is = refl;
     } in
-    c.write_claims.ensures ∙ ap (λ t. option_to_list buddy ++ map queued_claim t) taken ∙ fills queue to c.args.live _ _ _ chosen ∙ ap (λ q. fill_of q to c.args.live) c.self.view_is
+    c.write_claims.ensures
+    ∙ ap (λ t. option_to_list buddy ++ map queued_claim t) taken
+    ∙ fills queue to c.args.live _ _ _ chosen
+    ∙ ap (λ q. fill_of q to c.args.live) c.self.view_is
 
 pub returns-clause-queue : goal.returns-clause-queue
 returns-clause-queue c =
@@ -82,9 +76,8 @@ returns-clause-queue c =
       limit_is = c.send_limit-limit.ensures.limit;
       taken_is = refl;
     } in
-    let counted = counted-whole queue.rows c.as_mut_slice.result.now _ _ _ _ v buddy limit c.as_slice.ensures.value
-    c.as_slice-5.ensures.value c.rows_taken-taken.ensures.taken.chosen c.as_mut_slice.ensures.value
-    c.count_sends.ensures.sends in
+    let counted = counted-each queue.rows _ _ c.as_slice-3.ensures.value v buddy limit
+    c.rows_taken-taken.ensures.taken.chosen _ c.count_sends.ensures.sends in
     ap (with_rows queue to c.args.live _ _ _ chosen) counted
     ∙ counts queue to c.args.live _ _ _ chosen
     ∙ ap (λ q. filled q to c.args.live) c.self.view_is

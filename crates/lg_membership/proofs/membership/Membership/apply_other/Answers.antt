@@ -23,13 +23,13 @@ hear-heard-requires c = λ same.
 pub suspect-deadline-requires-clause-rises : goal.suspect-deadline-requires-clause-rises
 suspect-deadline-requires-clause-rises c =
     let inside = c.self.inside in
-    rises-kept inside.members.names inside.suspicions.items (reached-ordered _ c.self.invariant.reached).suspects
+    rises-kept inside.members.names inside.suspicions (reached-ordered _ c.self.invariant.reached).suspects
 
 pub suspect-deadline-requires-clause-seat : goal.suspect-deadline-requires-clause-seat
 suspect-deadline-requires-clause-seat c = λ overrode.
     let inside = c.self.inside in
     let claim = c.args.claim.now in
-    seat-kept inside.members.names claim.name inside.suspicions.items
+    seat-kept inside.members.names claim.name inside.suspicions
     (other_seat claim _ c.self.invariant.reached
     (λ same. c.requires (same ∙ ap (λ (s : GroupState). s.own.name) c.self.view_is))
     (overrode-takes inside.members.forgets inside.members.table claim (sym c.hear-heard.ensures.hearing ∙ overrode)))
@@ -37,7 +37,7 @@ suspect-deadline-requires-clause-seat c = λ overrode.
 pub suspect-deadline-requires-clause-known : goal.suspect-deadline-requires-clause-known
 suspect-deadline-requires-clause-known c =
     let inside = c.self.inside in
-    known-heard (takes inside.members.forgets inside.members.table c.args.claim.now) inside.members.names c.args.claim.now inside.suspicions.items (ap (λ (k : MembersValue). k.names) c.hear-heard.ensures.members)
+    known-heard (takes inside.members.forgets inside.members.table c.args.claim.now) inside.members.names c.args.claim.now inside.suspicions (ap (λ (k : MembersValue). k.names) c.hear-heard.ensures.members)
     c.self.invariant.known
 
 pub put-requires : goal.put-requires
@@ -46,7 +46,7 @@ put-requires c =
     let claim = c.args.claim.now in
     let table = inside.members.table in
     let names = inside.members.names in
-    let rows = inside.suspicions.items in
+    let rows = inside.suspicions in
     let n = live_in (heard inside.members.forgets table claim) in
     let hearing = c.hear-heard.ensures.hearing in
     let change = change-heard inside.members.forgets inside.config c.args.now claim table names rows hearing (ap (λ (k : MembersValue). k.table) c.hear-heard.ensures.members)
@@ -67,14 +67,14 @@ state_is : (c : After-if_open)
       config = c.self.inside.config;
       own = c.self.inside.own;
       members = c.hear-heard.new.self;
-      suspicions = rows_by c.hear-heard.new.self.names c.suspect-deadline.new.suspicions.items;
+      suspicions = rows_by c.hear-heard.new.self.names c.suspect-deadline.new.self;
       queue = c.put.new.queue;
     }
     ≡ apply_other c.args.now c.args.origin c.args.claim.now record {
       config = c.self.inside.config;
       own = c.self.inside.own;
       members = c.self.inside.members;
-      suspicions = rows_by c.self.inside.members.names c.self.inside.suspicions.items;
+      suspicions = rows_by c.self.inside.members.names c.self.inside.suspicions;
       queue = c.self.inside.queue;
     }
 state_is c =
@@ -82,7 +82,7 @@ state_is c =
     let claim = c.args.claim.now in
     let table = inside.members.table in
     let names = inside.members.names in
-    let rows = inside.suspicions.items in
+    let rows = inside.suspicions in
     let n = live_in (heard inside.members.forgets table claim) in
     let hearing = c.hear-heard.ensures.hearing in
     let change = change-heard inside.members.forgets inside.config c.args.now claim table names rows hearing (ap (λ (k : MembersValue). k.table) c.hear-heard.ensures.members)
@@ -122,7 +122,7 @@ returns-clause-applied c =
     let claim = c.args.claim.now in
     let table = inside.members.table in
     let names = inside.members.names in
-    let rows = inside.suspicions.items in
+    let rows = inside.suspicions in
     let after = (ap (λ (k : MembersValue). k.table) c.hear-heard.ensures.members) in
     let hearing = c.hear-heard.ensures.hearing in
     let taken = c.taken_of_other.ensures ∙ ap (λ h. taken_if (is_override h) claim) hearing

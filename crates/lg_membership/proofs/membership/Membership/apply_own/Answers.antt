@@ -36,7 +36,7 @@ invariant_of-self c =
             config = inside.config;
             own = c.hear-heard.ensures.own i;
             members = inside.members;
-            suspicions = rows_by inside.members.names inside.suspicions.items;
+            suspicions = rows_by inside.members.names inside.suspicions;
             queue = queue i;
           })
           c.self.invariant.reached;

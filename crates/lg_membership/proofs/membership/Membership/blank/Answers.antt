@@ -15,7 +15,7 @@ made c = record {
   config = None;
   own = c.new.result;
   members = c.new-2.result;
-  suspicions = rows_by c.new-2.result.names c.new-3.result.items;
+  suspicions = rows_by c.new-2.result.names c.new-3.result;
   queue = c.new-4.result;
 }
 

@@ -21,7 +21,7 @@ invariant_of-self c =
             config = inside.config;
             own = inside.own;
             members = inside.members;
-            suspicions = rows_by inside.members.names inside.suspicions.items;
+            suspicions = rows_by inside.members.names inside.suspicions;
             queue = queue i;
           })
           c.self.invariant.reached;
@@ -40,7 +40,7 @@ returns-clause-log c = λ log is.
       config = inside.config;
       own = inside.own;
       members = inside.members;
-      suspicions = rows_by inside.members.names inside.suspicions.items;
+      suspicions = rows_by inside.members.names inside.suspicions;
       queue = queue i;
     })
     ∙ ap sent (c.self.view_is ∙ is)

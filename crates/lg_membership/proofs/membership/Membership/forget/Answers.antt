@@ -30,7 +30,7 @@ returns-then-is_same_name-clause-log c = λ log is.
 pub end-requires : goal.end-requires
 end-requires c =
     let inside = c.self.inside in
-    rises-kept inside.members.names inside.suspicions.items (reached-ordered _ c.self.invariant.reached).suspects
+    rises-kept inside.members.names inside.suspicions (reached-ordered _ c.self.invariant.reached).suspects
 
 -- another's name
 pub give_back-requires-clause-other : goal.give_back-requires-clause-other
@@ -48,19 +48,19 @@ state_is : (c : After-remove) → record {
   config = c.self.inside.config;
   own = c.self.inside.own;
   members = c.give_back.new.members;
-  suspicions = rows_by c.give_back.new.members.names c.give_back.new.suspicions.items;
+  suspicions = rows_by c.give_back.new.members.names c.give_back.new.self;
   queue = c.remove.new.self;
 } ≡ forget_from_group c.args.name.now (record {
   config = c.self.inside.config;
   own = c.self.inside.own;
   members = c.self.inside.members;
-  suspicions = rows_by c.self.inside.members.names c.self.inside.suspicions.items;
+  suspicions = rows_by c.self.inside.members.names c.self.inside.suspicions;
   queue = c.self.inside.queue;
 })
 state_is c =
     let n = c.args.name.now in
     let inside = c.self.inside in
-    let before = rows_by inside.members.names inside.suspicions.items in
+    let before = rows_by inside.members.names inside.suspicions in
     let other =
     ap (is_same name_cmp n) (sym c.name.ensures) ∙ sym c.is_same_name.ensures ∙ c.if-is_same_name.false in
     let suspicions =

@@ -33,7 +33,7 @@ invariant_of-self c =
             config = inside.config;
             own = c.leave.ensures.own i;
             members = inside.members;
-            suspicions = rows_by inside.members.names inside.suspicions.items;
+            suspicions = rows_by inside.members.names inside.suspicions;
             queue = queue i;
           })
           c.self.invariant.reached;
@@ -51,7 +51,7 @@ returns-clause-log c = λ log is.
       config = inside.config;
       own = c.leave.ensures.own i;
       members = inside.members;
-      suspicions = rows_by inside.members.names inside.suspicions.items;
+      suspicions = rows_by inside.members.names inside.suspicions;
       queue = queue i;
     })
     ∙ ap leave_group (c.self.view_is ∙ is)

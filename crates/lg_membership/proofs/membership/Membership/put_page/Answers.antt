@@ -8,12 +8,14 @@ use Rattle.lg_membership.specs.Meaning.Gossip.{version_sent}
 use Rattle.lg_membership.specs.Meaning.Pages.{page_of}
 use Rattle.lg_membership.specs.Support.State.{GroupState, shown, with_paged}
 use Rattle.lg_membership.proofs.Paging.{rises-page, page-shown}
+use Rattle.lg_membership.proofs.Rooms.{reached-ordered}
 use Rattle.lg_membership.proofs.membership.Membership.put_page.Goals as goal
 
 pub put_own-requires-clause-rises : goal.put_own-requires-clause-rises
 put_own-requires-clause-rises c =
     subst (λ (rows : List Claim). Rises name_cmp (map name_of rows)) (sym c.put_others.ensures)
-    (rises-page c.version-version.result (option_copied c.args.after) c.records.result.now c.records.ensures.rises)
+    (rises-page c.version-version.result (option_copied c.args.after) c.self.inside.members.table
+    (reached-ordered _ c.self.invariant.reached).rises)
 
 pub returns-then-is_some-clause-state : goal.returns-then-is_some-clause-state
 returns-then-is_some-clause-state c =
@@ -21,7 +23,7 @@ returns-then-is_some-clause-state c =
     let inside = c.self.inside in
     let copied : c.try_extend_from_slice-copied.new.self.items ≡ c.as_slice.result.now = search rules in
     let version = c.version-version.result in
-    let others = c.put_others.ensures ∙ ap (page_of version after) c.records.ensures.records in
+    let others = c.put_others.ensures in
     let gathered = c.put_own.ensures ∙ (λ i. with_paged version after (c.record.ensures i) (others i)) in
     let cut = c.as_slice.ensures.value ∙ c.truncate.ensures.items ∙ (λ i. take (c.most_claims.ensures.count i) (gathered i)) in
     copied ∙ cut

@@ -23,9 +23,7 @@ after-other k n = record k { table = without_row name_cmp name_of n k.table; nam
 -- the name is known
 has-row : (c : goal.After-take_slot)
     → HasRow name_cmp name_of c.args.name.now c.self.inside.records.items c.in-Ok.at
-has-row c =
-    subst (λ (rs : List Claim). HasRow name_cmp name_of c.args.name.now rs c.in-Ok.at) c.as_slice.ensures.value
-    c.in-Ok.ensures
+has-row c = c.in-Ok.ensures
 
 within-keys : (c : goal.After-take_slot) → c.in-Ok.at < length (map name_of c.self.inside.records.items)
 within-keys c = omega (arith, (has-row c).within, length-map c.self.inside.records.items name_of)
@@ -44,9 +42,7 @@ named c = key-at name_of c.args.name.now c.self.inside.records.items c.in-Ok.at 
 pub take_slot-requires-clause-within : goal.take_slot-requires-clause-within
 take_slot-requires-clause-within c =
     let rows = c.self.inside.records.items in
-    let has : HasRow name_cmp name_of c.args.name.now rows c.in-Ok.at =
-    subst (λ (rs : List Claim). HasRow name_cmp name_of c.args.name.now rs c.in-Ok.at) c.as_slice.ensures.value
-    c.in-Ok.ensures in
+    let has : HasRow name_cmp name_of c.args.name.now rows c.in-Ok.at = c.in-Ok.ensures in
     omega (arith, has.within, length-map rows name_of, length-slots c.self.invariant.names)
 
 pub take_slot-requires-clause-few : goal.take_slot-requires-clause-few
@@ -137,9 +133,7 @@ returns-in-Ok-clause-others c = λ other d.
 
 -- the name is unknown
 lacks-row : (c : goal.In-Err) → LacksRow name_cmp name_of c.args.name.now c.self.inside.records.items c.in-Err.field-0
-lacks-row c =
-    subst (λ (rs : List Claim). LacksRow name_cmp name_of c.args.name.now rs c.in-Err.field-0) c.as_slice.ensures.value
-    c.in-Err.ensures
+lacks-row c = c.in-Err.ensures
 
 no-slot : (c : goal.In-Err) → is_held c.args.name.now c.args.self.now.names ≡ false
 no-slot c =

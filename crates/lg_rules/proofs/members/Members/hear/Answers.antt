@@ -26,9 +26,7 @@ held_as own forgets rows indexes =
 -- the record is there: the names are as before
 has-row : (c : goal.After-hear_known)
     → HasRow name_cmp name_of c.args.claim.now.name c.self.inside.records.items c.in-Ok.at
-has-row c =
-    let n = c.args.claim.now.name in
-    subst (λ (rs : List Claim). HasRow name_cmp name_of n rs c.in-Ok.at) c.as_slice.ensures.value c.in-Ok.ensures
+has-row c = c.in-Ok.ensures
 
 members-known : (c : goal.After-hear_known)
     → held_as c.self.inside.own c.self.inside.forgets c.hear_known.new.records.items c.self.inside.indexes
@@ -79,8 +77,7 @@ returns-in-Ok-clause-leave c = known-leaves c.args.self.now.forgets c.args.self.
 gone-row : (c : goal.Then-is_unwelcome) → row_at name_cmp name_of c.args.claim.now.name c.self.inside.records.items ≡ None
 gone-row c =
     let lacks : LacksRow name_cmp name_of c.args.claim.now.name c.self.inside.records.items c.in-Err.field-0 =
-    subst (λ (rs : List Claim). LacksRow name_cmp name_of c.args.claim.now.name rs c.in-Err.field-0)
-    c.as_slice.ensures.value c.in-Err.ensures in
+    c.in-Err.ensures in
     lacks.missing
 
 -- a claim that isn't taken leaves all as it is
@@ -136,11 +133,10 @@ free-none c =
 
 lacks-none : (c : goal.In-None) → row_at name_cmp name_of c.args.claim.now.name c.self.inside.records.items ≡ None
 lacks-none c =
-    let claim = c.args.claim.now in
-    let lacks : LacksRow name_cmp name_of claim.name c.self.inside.records.items c.in-Err.field-0 =
-    subst (λ (rs : List Claim). LacksRow name_cmp name_of claim.name rs c.in-Err.field-0)
-    c.as_slice.ensures.value (subst (λ (k : ℕ). LacksRow name_cmp name_of claim.name c.as_slice.result.now k)
-    (sym c.in-Err-2.at-is) c.in-Err-2.ensures) in
+    let n = c.args.claim.now.name in
+    let rows = c.self.inside.records.items in
+    let lacks : LacksRow name_cmp name_of n rows c.in-Err.field-0 =
+    subst (λ (k : ℕ). LacksRow name_cmp name_of n rows k) (sym c.in-Err-2.at-is) c.in-Err-2.ensures in
     lacks.missing
 
 full-none : (c : goal.In-None) → takes c.self.inside.forgets c.self.inside.records.items c.args.claim.now ≡ false
@@ -199,8 +195,8 @@ lacks-row : (c : goal.After-give_slot)
     → LacksRow name_cmp name_of c.args.claim.now.name c.self.inside.records.items c.in-Err.field-0
 lacks-row c =
     let n = c.args.claim.now.name in
-    subst (λ (rs : List Claim). LacksRow name_cmp name_of n rs c.in-Err.field-0) c.as_slice.ensures.value
-    (subst (λ (k : ℕ). LacksRow name_cmp name_of n c.as_slice.result.now k) (sym c.in-Err-2.at-is) c.in-Err-2.ensures)
+    let rows = c.self.inside.records.items in
+    subst (λ (k : ℕ). LacksRow name_cmp name_of n rows k) (sym c.in-Err-2.at-is) c.in-Err-2.ensures
 
 within-rows : (c : goal.After-give_slot) → c.in-Err.field-0 ≤ length (map name_of c.self.inside.records.items)
 within-rows c = omega (arith, (lacks-row c).within, length-map c.self.inside.records.items name_of)
@@ -220,9 +216,7 @@ give_slot-requires-clause-room c =
 pub give_slot-requires-clause-within : goal.give_slot-requires-clause-within
 give_slot-requires-clause-within c =
     let rows = c.self.inside.records.items in
-    let lacks =
-    subst (λ (rs : List Claim). LacksRow name_cmp name_of c.args.claim.now.name rs c.in-Err-2.at)
-    c.as_slice.ensures.value c.in-Err-2.ensures in
+    let lacks : LacksRow name_cmp name_of c.args.claim.now.name rows c.in-Err-2.at = c.in-Err-2.ensures in
     omega (arith, length-slots c.self.invariant.names, length-map rows name_of, lacks.within, c.in-Err-2.at-is)
 
 keys-added : (c : goal.After-give_slot)

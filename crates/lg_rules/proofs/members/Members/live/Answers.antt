@@ -1,4 +1,4 @@
-use Rattle.std.proofs.Common.{not, length, ap, arith}
+use Rattle.std.proofs.Common.{not, arith}
 use Rattle.std.proofs.lemmas.List.Sums.{count_by-le-length}
 use Rattle.lg_rules.specs.declared.claim.Claim.{Claim}
 use Rattle.lg_rules.specs.Meaning.Claim.{is_gone}
@@ -9,7 +9,7 @@ returns-clause-few c =
     omega (
       arith,
       c.self.invariant.rows.counted,
-      c.as_slice.ensures.fits,
-      ap length c.as_slice.ensures.value,
+      c.len.ensures.few,
+      c.len.ensures.len,
       count_by-le-length (λ (r : Claim). not (is_gone r.status)) c.self.inside.records.items,
     )

@@ -1,4 +1,4 @@
-use Rattle.std.proofs.Common.{◌≡◌, ◌≢◌, ◌<◌, ◌≤◌, ◌-◌, suc, ℕ, ap, ◌∙◌, sym, subst, map, length, List, []}
+use Rattle.std.proofs.Common.{◌≡◌, ◌≢◌, ◌<◌, ◌≤◌, ◌-◌, suc, ℕ, ap, ◌∙◌, sym, subst, map, length, []}
 use Rattle.std.proofs.Common.{arith, Some, None, get_or}
 use Rattle.std.proofs.lemmas.List.{length-map, get_or-map}
 use Rattle.std.proofs.lemmas.Bool.{eqb-true, eqb-false}
@@ -38,11 +38,12 @@ returns-then-index-len-clause-name c =
     (eqb-false c.args.slot c.own.result (sym c.eq.ensures
     ∙ c.if-eq.false)) c.own.ensures c.number.ensures c.from.ensures in
     let index : get_or indexes other 0 ≡ c.from-index.result = sym c.from-index.ensures in
-    let there : c.from-index.result < length rows = omega (arith, c.if-index-len.true, c.len.ensures.value) in
+    let there : c.from-index.result < length rows = omega (arith, c.if-index-len.true, c.len.ensures.len) in
     let within : other < length indexes =
     omega (arith, c.self.invariant.names.count, c.number.ensures, c.from.ensures) in
-    ap (λ (rs : List Claim). Some (name_of (get_or rs c.from-index.result c.index-deref-index.result))) c.deref.ensures.0
-    ∙ ap Some (sym (get_or-map name_of rows c.from-index.result c.index-deref-index.result [] there)
+    let read = c.index.result.now in
+    ap (λ (r : Claim). Some (name_of r)) c.index.ensures
+    ∙ ap Some (sym (get_or-map name_of rows c.from-index.result read [] there)
     ∙ ap (λ i. get_or keys i []) (sym index))
     ∙ sym (name-at c.self.inside.own keys indexes c.args.slot other behind within
     (omega (arith, index, there, length-map rows name_of)))
@@ -66,7 +67,7 @@ returns-else-index-len-clause-name c =
     ∙ c.if-eq.false)) c.own.ensures c.number.ensures c.from.ensures in
     let index : get_or indexes other 0 ≡ c.from-index.result = sym c.from-index.ensures in
     let past : length keys ≤ get_or indexes other 0 =
-    omega (arith, index, c.if-index-len.false, c.len.ensures.value, length-map rows name_of) in
+    omega (arith, index, c.if-index-len.false, c.len.ensures.len, length-map rows name_of) in
     let within : other < length indexes =
     omega (arith, c.self.invariant.names.count, c.number.ensures, c.from.ensures) in
     sym (name-free c.self.inside.own keys indexes c.args.slot other behind within past)

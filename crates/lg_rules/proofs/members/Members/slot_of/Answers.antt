@@ -21,8 +21,7 @@ returns-in-Ok-clause-slot c =
     let rows = c.self.inside.records.items in
     let slots = c.self.inside.slots.items in
     let n = c.args.name.now in
-    let has : HasRow name_cmp name_of n rows c.in-Ok.at =
-    subst (λ (rs : List Claim). HasRow name_cmp name_of n rs c.in-Ok.at) c.as_slice.ensures.value c.in-Ok.ensures in
+    let has : HasRow name_cmp name_of n rows c.in-Ok.at = c.in-Ok.ensures in
     let within : c.in-Ok.at < length (map name_of rows) = omega (arith, has.within, length-map rows name_of) in
     let within' : c.in-Ok.at < length slots = omega (arith, within, length-slots c.self.invariant.names) in
     let is : c.index-deref-at.result ≡ get_or slots c.in-Ok.at 0 =
@@ -72,8 +71,7 @@ returns-in-Err-2-clause-slot c =
     let rows = c.self.inside.records.items in
     let n = c.args.name.now in
     let at = c.in-Err.field-0 in
-    let lacks : LacksRow name_cmp name_of n rows at =
-    subst (λ (rs : List Claim). LacksRow name_cmp name_of n rs at) c.as_slice.ensures.value c.in-Err.ensures in
+    let lacks : LacksRow name_cmp name_of n rows at = c.in-Err.ensures in
     let other : n ≢ own = names_differ n own (sym c.eq.ensures ∙ c.if-eq.false) in
     let apart = keys-apart name_of n rows c.self.invariant.rows.rises lacks.missing in
     sym (slot-none n (held_names own (map name_of rows) c.self.inside.indexes)

@@ -1,0 +1,2 @@
+-- What is right: to believe the contracts, read these.
+pub mod Rows

@@ -1,0 +1,3 @@
+-- What only carries the proofs.
+pub mod Lends
+pub mod Places
