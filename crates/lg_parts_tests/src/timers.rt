@@ -147,8 +147,89 @@ const FEW: &[Play] = &[
     ),
 ];
 
+/// One timer of each kind, all at one deadline and set in the reversed order of their ids, fire in that order.
+const EIGHT: Play = (
+    "each kind at one deadline",
+    &[
+        Gossip(9000),
+        Forget(9000, "c"),
+        RoundStart(9000),
+        RelayEnd(9000, 1),
+        RelayNack(9000, 1),
+        Direct(9000),
+        Suspicion(9000, "c"),
+        RoundEnd(9000),
+    ],
+    &[
+        Step::Take(8999, Nothing),
+        Step::Fires(RoundEnd(9000)),
+        Step::Fires(Suspicion(9000, "c")),
+        Step::Fires(Direct(9000)),
+        Step::Fires(RelayNack(9000, 1)),
+        Step::Fires(RelayEnd(9000, 1)),
+        Step::Fires(RoundStart(9000)),
+        Step::Fires(Forget(9000, "c")),
+        Step::Fires(Gossip(9000)),
+        Step::Least(Nothing),
+    ],
+);
+
+/// The timers of a round and that of gossip are cancelled one by one beside others, and replaced by ones with another
+/// deadline.
+const SINGLE: &[Play] = &[
+    (
+        "those of a round and of gossip are cancelled",
+        &[
+            RoundEnd(500),
+            Direct(600),
+            RoundStart(700),
+            RelayEnd(750, 1),
+            Gossip(800),
+        ],
+        &[
+            Step::Cancel(RoundEnd(500), true),
+            Step::Cancel(RoundEnd(500), false),
+            Step::Least(Direct(600)),
+            Step::Cancel(RoundStart(700), true),
+            Step::Cancel(RoundStart(700), false),
+            Step::Least(Direct(600)),
+            Step::Cancel(Direct(600), true),
+            Step::Cancel(Direct(600), false),
+            Step::Least(RelayEnd(750, 1)),
+            Step::Cancel(RelayEnd(750, 1), true),
+            Step::Least(Gossip(800)),
+            Step::Cancel(Gossip(800), true),
+            Step::Cancel(Gossip(800), false),
+            Step::Least(Nothing),
+        ],
+    ),
+    (
+        "those of a round and of gossip get another deadline",
+        &[
+            RoundEnd(500),
+            Direct(600),
+            RoundStart(700),
+            Gossip(800),
+            Suspicion(650, "c"),
+            RoundEnd(900),
+            Direct(650),
+            RoundStart(550),
+            Gossip(650),
+        ],
+        &[
+            Step::Take(549, Nothing),
+            Step::Fires(RoundStart(550)),
+            Step::Fires(Suspicion(650, "c")),
+            Step::Fires(Direct(650)),
+            Step::Fires(Gossip(650)),
+            Step::Fires(RoundEnd(900)),
+            Step::Least(Nothing),
+        ],
+    ),
+];
+
 /// Each play.
-const PLAYS: &[&[Play]] = &[&[ELEVEN], FEW];
+const PLAYS: &[&[Play]] = &[&[ELEVEN, EIGHT], FEW, SINGLE];
 
 #[test]
 fn timers_fire_and_are_cancelled(rt: HostRuntime) {

@@ -25,7 +25,7 @@ with_first t [] a = refl
 with_first t (u ∷ timers) a = rw a.0
 
 -- a fresh timer that passes is set among those that pass
-filter-with_passing : (p : Timer → Bool) (t : Timer) (timers : List Timer) → p t ≡ true → Rises name_cmp (map timer_key timers) → IsFresh t timers → filter p (with_timer t timers) ≡ with_timer t (filter p timers)
+pub filter-with_passing : (p : Timer → Bool) (t : Timer) (timers : List Timer) → p t ≡ true → Rises name_cmp (map timer_key timers) → IsFresh t timers → filter p (with_timer t timers) ≡ with_timer t (filter p timers)
 filter-with_passing p t [] e r f = rw e
 filter-with_passing p t (u ∷ timers) e r f = elim (compared (timer_cmp t u)) [
   | Below l ↦ (
@@ -42,7 +42,7 @@ filter-with_passing p t (u ∷ timers) e r f = elim (compared (timer_cmp t u)) [
 ]
 
 -- a fresh timer that doesn't pass is as if it weren't set
-filter-with_failing : (p : Timer → Bool) (t : Timer) (timers : List Timer) → p t ≡ false → IsFresh t timers → filter p (with_timer t timers) ≡ filter p timers
+pub filter-with_failing : (p : Timer → Bool) (t : Timer) (timers : List Timer) → p t ≡ false → IsFresh t timers → filter p (with_timer t timers) ≡ filter p timers
 filter-with_failing p t [] e f = rw e
 filter-with_failing p t (u ∷ timers) e f = elim (compared (timer_cmp t u)) [
   | Below l ↦ rw (l, e) refl
@@ -74,7 +74,7 @@ filter-in_turn p (t ∷ timers) d =
     gone e = rw e
 
 -- what none of the timers passes, none of those that are left does
-none_left : (p q : Timer → Bool) (timers : List Timer) → list_any q timers ≡ false → list_any q (filter p timers) ≡ false
+pub none_left : (p q : Timer → Bool) (timers : List Timer) → list_any q timers ≡ false → list_any q (filter p timers) ≡ false
 none_left p q [] e = refl
 none_left p q (t ∷ timers) e = elim (cases_Bool (p t)) [
   | inl kept ↦ rw kept (split (q t) e (none_left p q timers (after (q t) e)))

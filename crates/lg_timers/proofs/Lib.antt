@@ -12,6 +12,8 @@ pub mod RowOrder
 pub mod SearchLaws
 pub mod SetLaws
 pub mod SiftLaws
+pub mod SingleLaws
+pub mod SinglesLaws
 pub mod SlotLaws
 pub mod TimerSets
 pub mod TurnLaws

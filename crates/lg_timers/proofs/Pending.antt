@@ -57,7 +57,7 @@ without-in_turn id timers =
     (rises-in_turn (without_timer id timers))
     (λ k. among-without k id (in_turn timers) ∙ ap (λ b. not (list_has id k) && b) (among-in_turn k timers) ∙ sym (among-without k id timers) ∙ sym (among-in_turn k (without_timer id timers)))
 
-or_swap : (a b c : Bool) → (a || (b || c)) ≡ (b || (a || c))
+pub or_swap : (a b c : Bool) → (a || (b || c)) ≡ (b || (a || c))
 or_swap true true c = refl
 or_swap true false c = refl
 or_swap false b c = refl

@@ -17,7 +17,7 @@ use Rattle.lg_timers.proofs.CancelLaws.{above_filter, distinct-filter}
 pub set-nil : IsTimerSet []
 set-nil = record { rises = tt; distinct = refl }
 
-apart_fresh : (t : Timer) (timers : List Timer) → is_set t.id timers ≡ false → IsFresh t timers
+pub apart_fresh : (t : Timer) (timers : List Timer) → is_set t.id timers ≡ false → IsFresh t timers
 apart_fresh t timers apart = record { apart = not_set t timers apart }
 
 -- a set with a timer of another id is one

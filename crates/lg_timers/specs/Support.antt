@@ -1,4 +1,5 @@
 -- Definitions that only support the proofs.
 pub mod Heap
 pub mod InTurn
+pub mod Singles
 pub mod Slots

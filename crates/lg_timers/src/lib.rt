@@ -4,6 +4,8 @@
 mod by_id;
 mod comparing;
 mod heap;
+mod many;
+mod singles;
 mod steps;
 mod timer;
 mod timers;

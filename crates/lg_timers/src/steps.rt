@@ -9,7 +9,7 @@ ghost use Rattle.lg_timers.specs.Meaning.Timers.{timer_cmp};
 use crate::timer::Timer;
 use std::marker::Model;
 
-/// The most comparisons that one call of [`crate::Timers`] makes: 24.
+/// The most comparisons of timers of its heap that one call of [`crate::Timers`] makes: 24.
 pub const MAX_STEPS: u64 = 24;
 
 /// A count of comparisons of timers. A contract sees it as its number.

@@ -5,14 +5,13 @@
 ghost use Rattle.std.specs.Prelude.{◌≡◌, ◌<◌, ◌≤◌, ◌+◌, ◌^◌, false, [], length};
 ghost use Rattle.lg_timers.specs.Meaning.Timers.{is_set, with_timer, without_timer};
 ghost use Rattle.lg_timers.specs.Meaning.Timers.{least_of, due_of, first_forget, timers_left};
-ghost use Rattle.lg_timers.specs.Support.InTurn.{IsTimerSet, earlier_forget};
+ghost use Rattle.lg_timers.specs.Support.InTurn.{IsTimerSet};
 
-use crate::by_id::index_of;
 use crate::comparing::{Comparer, Uncounted};
-use crate::heap::Heap;
+use crate::many::Many;
+use crate::singles::{Single, Singles, first_of_both};
 use crate::steps::{MAX_STEPS, Steps};
 use crate::timer::{Timer, TimerId};
-use arrayvec::ArrayVec;
 use lg_timing::Moment;
 use std::marker::Model;
 
@@ -22,29 +21,32 @@ pub const MAX_TIMERS: usize = 400;
 /// The timers that are set: at most one with each id, and at most [`MAX_TIMERS`].
 ///
 /// A contract sees them in the order in which they fire, whatever their order in memory is. The first is found without
-/// a search. To set or to cancel one takes at most [`MAX_STEPS`] comparisons of timers, and a search by halving for its
-/// id. No call allocates memory.
+/// a search. To set or to cancel one takes at most [`MAX_STEPS`] comparisons of timers of the heap, and a search by
+/// halving for its id. No call allocates memory.
+///
+/// [`TimerId::RoundEnd`], [`TimerId::Direct`], [`TimerId::RoundStart`] and [`TimerId::Gossip`] stand outside the heap,
+/// each as its deadline, since there is at most one of each, and each round and each gossip sets or cancels some. So to
+/// set or to cancel one takes no search, and moves no timer of the heap.
 #[derive(Debug, Drop)]
 pub struct Timers {
-    // Each timer stays in its slot. What is in a slot that isn't in use doesn't count.
-    timers: [Timer; MAX_TIMERS],
-    // The slots in use, as a heap.
-    heap: Heap,
-    // The slots in use, in rising order of their timers' ids.
-    by_id: ArrayVec<u16, MAX_TIMERS>,
+    // The timers about no member and no relay, of which at most one of a kind is set.
+    singles: Singles,
+    // The first of these. Each event asks for it, and few change it.
+    first_single: Option<Single>,
+    // The others, as a heap.
+    many: Many,
 }
 
 impl Model for Timers {
     ghost use Rattle.std.specs.Prelude.{List};
     ghost use Rattle.lg_timers.specs.declared.timer.Timer.{Timer as OneTimer};
-    ghost use Rattle.lg_timers.specs.Meaning.Timers.{in_turn};
-    ghost use Rattle.lg_timers.specs.Support.Slots.{timers_in, AreBothRows};
+    ghost use Rattle.lg_timers.specs.Support.Singles.{with_singles, AreTimers};
 
     ghost Value = { List OneTimer };
 
-    ghost view = { λ t. in_turn (timers_in t.timers t.by_id.items) };
+    ghost view = { λ t. with_singles t.singles t.many };
 
-    ghost invariant = { λ t. AreBothRows t.timers t.heap.slots t.heap.places t.heap.count t.by_id.items };
+    ghost invariant = { λ t. AreTimers t.singles t.first_single t.many };
 }
 
 impl Default for Timers {
@@ -57,29 +59,15 @@ impl Default for Timers {
     }
 }
 
-/// The first timer that forgets a member, by the first of some timers that does, and one more timer.
-fn earlier_forget(first: Option<Timer>, timer: &Timer) -> Option<Timer>
-    ensures { result ≡ earlier_forget first timer.now }
-{
-    if !matches!(timer.id, TimerId::Forget(_)) {
-        return first;
-    }
-    match first {
-        Some(first) if first.is_before(timer) => Some(first),
-        _ => Some(*timer),
-    }
-}
-
 impl Timers {
     /// An empty set of timers.
-    #[tactic(auto, unfolding(crate::specs::Meaning::Timers::in_turn))]
     pub fn new() -> Timers
         ensures { result ≡ [] }
     {
         Timers {
-            timers: [Timer::default(); MAX_TIMERS],
-            heap: Heap::new(),
-            by_id: ArrayVec::new(),
+            singles: Singles::new(),
+            first_single: None,
+            many: Many::new(),
         }
     }
 
@@ -87,14 +75,10 @@ impl Timers {
     pub fn copy(&self) -> Timers
         ensures { result ≡ self.now }
     {
-        let mut timers = [Timer::default(); MAX_TIMERS];
-        timers.copy_from_slice(&self.timers);
-        let mut by_id = ArrayVec::new();
-        by_id.try_extend_from_slice(&self.by_id).unwrap();
         Timers {
-            timers,
-            heap: self.heap.copy(),
-            by_id,
+            singles: self.singles,
+            first_single: self.first_single,
+            many: self.many.copy(),
         }
     }
 
@@ -149,18 +133,10 @@ impl Timers {
         ensures rises { C.count comparer.old ≤ C.count comparer.new }
         ensures counted { C.count comparer.new ≤ C.count comparer.old + MAX_STEPS }
     {
-        match index_of(&self.by_id, &self.timers, &timer.id) {
-            Ok(at) => {
-                let slot = self.by_id[at];
-                self.timers[usize::from(slot)] = timer;
-                self.heap.replace(&self.timers, slot, comparer);
-            }
-            Err(at) => {
-                let slot = self.heap.free_slot();
-                self.timers[usize::from(slot)] = timer;
-                self.by_id.insert(at, slot);
-                self.heap.add(&self.timers, comparer);
-            }
+        if self.singles.reset(&timer) {
+            self.first_single = self.singles.first();
+        } else {
+            self.many.reset_with(timer, comparer);
         }
     }
 
@@ -193,32 +169,31 @@ impl Timers {
         ensures rises { C.count comparer.old ≤ C.count comparer.new }
         ensures counted { C.count comparer.new ≤ C.count comparer.old + MAX_STEPS }
     {
-        match index_of(&self.by_id, &self.timers, id) {
-            Ok(at) => {
-                let slot = self.by_id.remove(at);
-                self.heap.remove(&self.timers, slot, comparer);
-                true
+        match self.singles.cancel(id) {
+            Some(was_set) => {
+                self.first_single = self.singles.first();
+                was_set
             }
-            Err(_) => false,
+            None => self.many.cancel_with(id, comparer),
         }
     }
 
     /// Cancels all timers.
-    #[tactic(auto, unfolding(crate::specs::Meaning::Timers::in_turn))]
     pub fn clear(&mut self)
         ensures { self.new ≡ [] }
     {
-        self.heap.clear();
-        self.by_id.clear();
+        self.singles = Singles::new();
+        self.first_single = None;
+        self.many.clear();
     }
 
     /// The timer that fires first, if any is set.
+    #[inline]
     pub fn least(&self) -> Option<Timer>
         ensures least { result ≡ least_of self.now }
         ensures set { IsTimerSet self.now }
     {
-        let slot = self.heap.first()?;
-        Some(self.timers[usize::from(slot)])
+        first_of_both(self.first_single, self.many.first())
     }
 
     /// The first of the timers that are due, or `None` if none is due. A timer is due if its deadline isn't after
@@ -234,15 +209,11 @@ impl Timers {
     }
 
     /// The first of the timers that forget a member, or `None` if none is set. The timer stays set. This goes over all
-    /// timers that are set.
+    /// timers of the heap.
     pub fn first_forget(&self) -> Option<Timer>
         ensures { result ≡ first_forget self.now }
     {
-        let mut first = None;
-        for slot in self.by_id.as_slice() {
-            first = earlier_forget(first, &self.timers[usize::from(*slot)]);
-        }
-        first
+        self.many.first_forget()
     }
 
     /// Takes out the first of the timers that are due, and no other. A timer is due if its deadline isn't after
