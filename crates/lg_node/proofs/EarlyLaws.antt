@@ -1,5 +1,5 @@
 -- What a node is refused for before its loops.
-use Rattle.std.proofs.Common.{◌≡◌, ℕ, List, [], ◌∷◌, refl, ◌∙◌, inl, inr}
+use Rattle.std.proofs.Common.{ℕ, List, [], ◌∷◌, refl, ◌∙◌, inl, inr}
 use mathlib.Core.List.{IsPrefix}
 use Rattle.lg_timing.specs.declared.config.Config.{Config}
 use Rattle.lg_detector.specs.declared.event.Event.{Event}

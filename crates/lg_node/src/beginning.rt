@@ -14,7 +14,7 @@ ghost use Rattle.lg_loops.specs.Meaning.Words.{seeded};
 
 use crate::serving::StatusServer;
 use crate::start::{PLACES, Setup};
-use crate::threads::{Lookers, Sides};
+use crate::threads::{ServerSide, Sides};
 use left_right::Absorb;
 use lg_agent::{Agent, AgentName, Pass, Refusal};
 use lg_clock::Clock;
@@ -32,7 +32,9 @@ where
     Published<A>: Absorb<Update<A>, State = [Event; 0]>,
 {
     pub(crate) sides: Sides<'p, 'p, NodeLink<'s, 'c>, A>,
-    pub(crate) lookers: Lookers<'p, 'n, 's, 'r, A, R>,
+    /// The pass that has asked the seeds.
+    pub(crate) asker: Pass<'p, A>,
+    pub(crate) server: ServerSide<'p, 'n, 's, 'r, A, R>,
     pub(crate) unsent: u64,
 }
 
@@ -48,12 +50,12 @@ pub(crate) fn begin<'p, 'n, 's, 'c, 'r, A: AgentName, R: Wait, C: Clock>(
         → All (λ seen. seen ≡ Open start setup.now.config.now ∷ []) agent.old.told
         → IfOk result (λ r. HasBegun setup.now.config.now setup.now.settings.now start
         (line [] (failures_of r.sides.receiver.link)) (line [] (failures_of r.sides.ticker.link))
-        r.sides.receiver.pass r.sides.ticker.pass r.lookers.watcher r.lookers.status r.unsent) }
+        r.sides.receiver.pass r.sides.ticker.pass r.asker r.server.pass r.unsent) }
     ensures plan { IfOk result (λ r. r.sides.plan
         ≡ plan_of setup.now.config.now setup.now.settings.now.pull_ms setup.now.until) }
     ensures dice { IfOk result (λ r. r.sides.dice ≡ seeded setup.now.settings.now.dice) }
-    ensures told { IfOk result (λ r. (r.lookers.config.now ≡ setup.now.config.now)
-        × (r.lookers.settings.now ≡ setup.now.settings.now) × (r.lookers.server ≡ server.entry)) }
+    ensures told { IfOk result (λ r. (r.server.config.now ≡ setup.now.config.now)
+        × (r.server.settings.now ≡ setup.now.settings.now) × (r.server.server ≡ server.entry)) }
     ensures refused { (start : ℕ) → agent.old.name ≡ setup.now.config.now.name
         → All (λ seen. seen ≡ Open start setup.now.config.now ∷ []) agent.old.told
         → IfErr result (IsRefusedEarly setup.now.config.now) }
@@ -84,16 +86,16 @@ pub(crate) fn begin<'p, 'n, 's, 'c, 'r, A: AgentName, R: Wait, C: Clock>(
         PcgDice::new(setup.settings.dice),
         Plan::new(setup.config, setup.settings.pull_ms, setup.until),
     );
-    let lookers = Lookers {
+    let server = ServerSide {
         config: setup.config,
         settings: setup.settings,
-        watcher: asker,
-        status,
+        pass: status,
         server,
     };
     Ok(Ready {
         sides,
-        lookers,
+        asker,
+        server,
         unsent,
     })
 }

@@ -9,9 +9,10 @@ ghost use Rattle.lg_agent.specs.declared.refusal.Refusal.TheVariants.{NoMemory, 
 ghost use Rattle.lg_agent.specs.Meaning.Calls.{IsLook};
 ghost use Rattle.lg_agent.specs.Meaning.Closing.{IsClosed, IsRefusedClosing};
 
+use crate::following::WatcherLeft;
 use crate::node::NodeEnd;
 use crate::start::{Commons, PLACES};
-use crate::threads::{Both, Looked};
+use crate::threads::Joined;
 use lg_agent::{Agent, AgentName, CloseFault, Closed, Refusal, Spent, Unclosed};
 use lg_follow::Watched;
 use lg_loops::{Ended, LoopEnd};
@@ -36,36 +37,34 @@ pub(crate) struct Left<A: AgentName> {
 }
 
 /// What the passes of a node leave, with its ends, after its threads. The members are read by the watcher's pass. The
-/// packets to the seeds that weren't sent count among the ticking loop's.
-pub(crate) fn leave<A: AgentName, L: Drop>(
+/// packets to the seeds that weren't sent count among the ticking loop's. The writer and the stream of faults are given
+/// back too.
+pub(crate) fn leave<'w, 'f, A: AgentName, L: Drop, W, F>(
     alloc: Global,
-    looked: Looked<'_, A>,
-    both: Both<L, A>,
+    joined: Joined<'_, 'f, L, A, WatcherLeft<'_, 'w, A, W>, F>,
     unsent: u64,
-) -> Left<A>
-    ensures received { result.received ≡ both.0.end }
-    ensures ticked { record result.ticked { unsent = both.1.end.unsent } ≡ both.1.end }
-    ensures counted { both.1.end.unsent + unsent < 2 ^ 64 → result.ticked.unsent ≡ both.1.end.unsent + unsent }
-    ensures passes { (result.receiver ≡ both.0.spent) × (result.ticker ≡ both.1.spent)
-        × (result.status ≡ looked.entry.status) }
-    ensures watched { result.watched ≡ looked.entry.watched }
-    ensures served { result.served ≡ looked.entry.served }
-    ensures read { MatchResult result.members
-        (λ records. (records.items ≡ view_after result.reader.seen) × IsLook looked.entry.watcher result.reader)
-        (λ r. ((r ≡ NoView) ⊎ (r ≡ NoMemory)) × (result.reader ≡ looked.entry.watcher)) }
+) -> (Left<A>, (&'w mut W, &'f mut F))
+    ensures received { result.0.received ≡ joined.entry.1.1.0.end }
+    ensures ticked { record result.0.ticked { unsent = joined.entry.1.1.1.end.unsent } ≡ joined.entry.1.1.1.end }
+    ensures counted { joined.entry.1.1.1.end.unsent + unsent < 2 ^ 64
+        → result.0.ticked.unsent ≡ joined.entry.1.1.1.end.unsent + unsent }
+    ensures passes { (result.0.receiver ≡ joined.entry.1.1.0.spent) × (result.0.ticker ≡ joined.entry.1.1.1.spent)
+        × (result.0.status ≡ joined.entry.1.0.0) }
+    ensures watched { result.0.watched ≡ joined.entry.0.1.1 }
+    ensures served { result.0.served ≡ joined.entry.1.0.1.1 }
+    ensures read { MatchResult result.0.members
+        (λ records. (records.items ≡ view_after result.0.reader.seen) × IsLook joined.entry.0.0 result.0.reader)
+        (λ r. ((r ≡ NoView) ⊎ (r ≡ NoMemory)) × (result.0.reader ≡ joined.entry.0.0)) }
+    ensures writer { result.1.0 ≡ joined.entry.0.1.0 }
+    ensures faults { result.1.1 ≡ joined.entry.1.0.1.0 }
 {
-    let Looked {
-        mut watcher,
-        watched,
-        status,
-        served,
-    } = looked;
-    let (received, ticked) = both;
+    let ((watcher, (writer, watched)), ((status, (faults, served)), (received, ticked))) = joined;
+    let mut watcher = watcher;
     let (receiver, received) = without_link(received);
     let (ticker, mut ticked) = without_link(ticked);
     ticked.unsent = ticked.unsent.saturating_add(unsent);
     let members = watcher.members(alloc);
-    Left {
+    let left = Left {
         received,
         ticked,
         members,
@@ -75,7 +74,8 @@ pub(crate) fn leave<A: AgentName, L: Drop>(
         ticker,
         reader: watcher.finish(),
         status: status.finish(),
-    }
+    };
+    (left, (writer, faults))
 }
 
 /// What a loop gave back, without its link.

@@ -42,7 +42,7 @@ pub(crate) fn watch_if<'p, 'w, A, R, C, W>(
     followed: bool,
     pass: Pass<'p, A>,
     writer: &'w mut W,
-) -> (Pass<'p, A>, (&'w mut W, Option<Watched>))
+) -> WatcherLeft<'p, 'w, A, W>
 where
     A: AgentName,
     R: Wait + rt::Clock,
@@ -72,19 +72,43 @@ where
     (pass, (writer, Some(watched)))
 }
 
+/// What a watcher leaves: its pass, its writer, and how it ended, if the node was followed.
+pub type WatcherLeft<'p, 'w, A, W> = (Pass<'p, A>, (&'w mut W, Option<Watched>));
+
 /// The work of a watcher: with what it watches, if the node is followed.
 #[derive(Drop)]
-pub(crate) struct Watching<'x, 'a, 'p, 'w, A: AgentName, R, C, W>
+pub struct Watching<'x, 'a, 'p, 'w, A: AgentName, R, C, W>
 where
     Published<A>: Absorb<Update<A>, State = [Event; 0]>,
 {
-    pub(crate) shared: &'x Shared<'a, R, C>,
-    pub(crate) followed: bool,
-    pub(crate) pass: Pass<'p, A>,
-    pub(crate) writer: &'w mut W,
+    shared: &'x Shared<'a, R, C>,
+    followed: bool,
+    pass: Pass<'p, A>,
+    writer: &'w mut W,
 }
 
-impl<'x, 'a, 'p, 'w, A, R, C, W> Work<(Pass<'p, A>, (&'w mut W, Option<Watched>))>
+impl<'x, 'a, 'p, 'w, A: AgentName, R, C, W> Watching<'x, 'a, 'p, 'w, A, R, C, W> {
+    /// The work of a watcher with this pass, which tells on the writer what the node learns, if the node is followed.
+    pub fn new(
+        shared: &'x Shared<'a, R, C>,
+        followed: bool,
+        pass: Pass<'p, A>,
+        writer: &'w mut W,
+    ) -> Watching<'x, 'a, 'p, 'w, A, R, C, W>
+        ensures followed { result.followed ≡ followed }
+        ensures pass { result.pass ≡ pass.entry }
+        ensures writer { result.writer ≡ writer.entry }
+    {
+        Watching {
+            shared,
+            followed,
+            pass,
+            writer,
+        }
+    }
+}
+
+impl<'x, 'a, 'p, 'w, A, R, C, W> Work<WatcherLeft<'p, 'w, A, W>>
     for Watching<'x, 'a, 'p, 'w, A, R, C, W>
 where
     A: AgentName,
@@ -102,7 +126,7 @@ where
         self.followed
     }
 
-    fn work(self) -> (Pass<'p, A>, (&'w mut W, Option<Watched>)) {
+    fn work(self) -> WatcherLeft<'p, 'w, A, W> {
         watch_if(self.shared, self.followed, self.pass, self.writer)
     }
 }

@@ -2,6 +2,7 @@
 #![tactic(auto)]
 
 mod beginning;
+mod beside;
 mod closing;
 mod following;
 mod node;
@@ -12,6 +13,7 @@ mod sockets;
 mod start;
 mod threads;
 
+pub use following::{WatcherLeft, Watching};
 pub use lg_clock::{Clock, Loop, MachineClock, SteadyClock};
 pub use lg_counters::Counters;
 pub use lg_follow::Watched;
@@ -21,5 +23,6 @@ pub use lg_loops::{
 };
 pub use lg_status_server::Served;
 pub use node::{NodeEnd, NodeFault, NodeStart, Settings, run_node};
-pub use serving::StatusServer;
-pub use threads::{Both, Joined, Looked, Lookers, Sides, join_threads};
+pub use parts::Work;
+pub use serving::{ServerLeft, StatusServer};
+pub use threads::{Both, Joined, ServerSide, Sides, join_threads};

@@ -9,7 +9,7 @@ use std::snapshot::Snapshot;
 use std::thread::{Promise, PromisedHandle, Scope, Threads};
 
 /// Work that a thread may do.
-pub(crate) trait Work<T> {
+pub trait Work<T> {
     // What holds of it before it is done.
     ghost needs: { Self → Type 0 };
 
@@ -25,10 +25,11 @@ pub(crate) trait Work<T> {
         ensures { gives self result };
 }
 
-/// What a thread promises that does some work.
+/// What a thread promises that does some work, and whether one is wanted for it.
 #[derive(Drop)]
 pub(crate) struct Does<V> {
     work: Snapshot<V>,
+    is_wanted: bool,
 }
 
 impl<T, V: Work<T>> Promise<T> for Does<V> {
@@ -37,35 +38,36 @@ impl<T, V: Work<T>> Promise<T> for Does<V> {
 
 impl<V> Does<V> {
     /// The promise of a thread that does this work.
-    pub(crate) fn of(work: &V) -> Does<V>
+    pub(crate) fn of<T>(work: &V) -> Does<V>
+    where
+        V: Work<T>,
         ensures { result.work.value ≡ work.now }
     {
         Does {
             work: Snapshot::of(work),
+            is_wanted: work.is_wanted(),
         }
     }
 }
 
 /// What was made of some work: the thread that does it, or the work itself; and what it promised.
-pub(crate) type Started<T, P, F> = (Result<PromisedHandle<T, P>, F>, Snapshot<P>);
+pub(crate) type Started<T, V, F> = (Result<PromisedHandle<T, Does<V>>, F>, Snapshot<Does<V>>);
 
 /// Starts a thread that does some work, if it is wanted and can be started. Otherwise this gives the work back.
-pub(crate) fn start_if<
-    's,
-    E,
-    P: Promise<T> + Drop,
-    F: FnOnce() -> T + Send + 's,
-    T: Send + Drop + 's,
->(scope: &Scope<'s, E>, is_wanted: bool, promise: P, work: F) -> Started<T, P, F>
+pub(crate) fn start_if<'s, E, V: Work<T>, F: FnOnce() -> T + Send + 's, T: Send + Drop + 's>(
+    scope: &Scope<'s, E>,
+    promise: Does<V>,
+    work: F,
+) -> Started<T, V, F>
     requires runs { F.pre work }
-    requires keeps { (r : T) → F.post work r → P.kept_by promise r }
+    requires keeps { (r : T) → F.post work r → V.gives promise.work.value r }
     ensures promised { result.1.value ≡ promise }
     ensures begun { IfOk result.0 (λ h. h.promise ≡ result.1.value) }
     ensures runs { IfErr result.0 (λ f. F.pre f) }
-    ensures keeps { IfErr result.0 (λ f. (r : T) → F.post f r → P.kept_by result.1.value r) }
+    ensures keeps { IfErr result.0 (λ f. (r : T) → F.post f r → V.gives result.1.value.work.value r) }
 {
     let promised = Snapshot::of(&promise);
-    if !is_wanted {
+    if !promise.is_wanted {
         return (Err(work), promised);
     }
     match scope.spawn_with(promise, work) {
@@ -75,14 +77,14 @@ pub(crate) fn start_if<
 }
 
 /// Waits until the thread that does some work has ended. If none was started, this does the work.
-pub(crate) fn join_or_do<R: Threads, P: Promise<T> + Drop, F: FnOnce() -> T, T>(
+pub(crate) fn join_or_do<R: Threads, V: Work<T>, F: FnOnce() -> T, T>(
     rt: &R,
-    started: Started<T, P, F>,
+    started: Started<T, V, F>,
 ) -> T
     requires begun { IfOk started.0 (λ h. h.promise ≡ started.1.value) }
     requires runs { IfErr started.0 (λ f. F.pre f) }
-    requires keeps { IfErr started.0 (λ f. (r : T) → F.post f r → P.kept_by started.1.value r) }
-    ensures { P.kept_by started.1.value result }
+    requires keeps { IfErr started.0 (λ f. (r : T) → F.post f r → V.gives started.1.value.work.value r) }
+    ensures { V.gives started.1.value.work.value result }
 {
     let (thread, _promised) = started;
     match thread {

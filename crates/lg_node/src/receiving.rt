@@ -1,59 +1,66 @@
-//! What the thread of the receiving loop promises.
+//! The work of the receiving loop, in a thread of its own.
 //!
-//! Defined in: `lg_loops/specs/Meaning/Turns.antt`.
+//! Defined in: `lg_loops/specs/Meaning/Turns.antt`, `lg_loops/specs/Meaning/BothLoops.antt`.
 //! Tested in: `lg_node_tests/src/node/both.rt`, `lg_node_refusals/src/refused_memory.rt`.
-ghost use Rattle.lg_loops.specs.Meaning.Turns.{line, receives, Lasted};
+ghost use Rattle.std.specs.Prelude.{◌≡◌, ◌≤◌, true, false};
+ghost use Rattle.lg_agent.specs.declared.refusal.Refusal.TheVariants.{NoMemory};
+ghost use Rattle.lg_loops.specs.declared.ending.Why.TheVariants.{Refused};
 
-use lg_agent::AgentName;
-use lg_loops::{Ended, Link};
-use std::marker::{Brand, PhantomData};
-use std::thread::Promise;
+use crate::parts::Work;
+use left_right::Absorb;
+use lg_agent::{AgentName, Pass, Refusal};
+use lg_clock::Clock;
+use lg_detector::Event;
+use lg_loops::{Ended, Link, Shared, Side, Why, receive_loop};
+use lg_view::{Published, Update};
+use std::sync::Wait;
 
-/// Names the state in which a loop starts, how many turns it may make, whether it is endless, and how long each waits.
-pub(crate) trait Start {
-    ghost use Rattle.std.specs.Prelude.{ℕ, Bool};
-    ghost use Rattle.lg_agent.specs.Meaning.Values.{PassValue};
-    ghost use Rattle.lg_loops.specs.Meaning.Turns.{LinkValue};
-
-    ghost own: { PassValue };
-
-    ghost line: { LinkValue };
-
-    ghost bound: { ℕ };
-
-    ghost endless: { Bool };
-
-    ghost wait: { ℕ };
-}
-
-impl Start for Brand {
-    ghost use Rattle.std.specs.Prelude.{[], false};
-
-    ghost own = { record { name = []; seat = 0; seen = []; gone = 0; mine = [] } };
-
-    ghost line = { record { log = []; failed = 0 } };
-
-    ghost bound = { 0 };
-
-    ghost endless = { false };
-
-    ghost wait = { 0 };
-}
-
-/// What the thread of a receiving loop promises of its end, if it starts in that state.
+/// The receiving loop: what it works with.
 #[derive(Drop)]
-pub(crate) struct Receives<S: Start> {
-    start: PhantomData<S>,
+pub(crate) struct Receiving<'x, 'a, 'l, L, A: AgentName, R, C>
+where
+    Published<A>: Absorb<Update<A>, State = [Event; 0]>,
+{
+    pub(crate) shared: &'x Shared<'a, R, C>,
+    pub(crate) pass: Pass<'l, A>,
+    pub(crate) link: L,
 }
 
-impl<S: Start> Receives<S> {
-    /// The promise of a thread that starts in that state.
-    pub(crate) fn new() -> Receives<S> {
-        Receives { start: PhantomData }
+impl<'x, 'a, 'l, L, A, R, C> Work<Ended<L, A>> for Receiving<'x, 'a, 'l, L, A, R, C>
+where
+    L: Link,
+    A: AgentName,
+    R: Wait,
+    C: Clock,
+{
+    ghost use Rattle.std.specs.Prelude.{◌≤◌};
+    ghost use Rattle.lg_loops.specs.Meaning.Turns.{line, receives, Lasted};
+    ghost use Rattle.lg_loops.specs.declared.shared.TheConstants.{MAX_TURNS};
+
+    ghost needs = { λ w. w.shared.now.bound ≤ MAX_TURNS };
+
+    ghost gives = { λ w r. Lasted (receives w.shared.now.wait_ms) L.tells w.shared.now.bound w.shared.now.endless
+        (line (L.log w.link) (L.failed w.link)) (line (L.log r.link) (L.failed r.link))
+        w.pass r.spent r.end };
+
+    fn is_wanted(&self) -> bool {
+        true
+    }
+
+    fn work(self) -> Ended<L, A> {
+        receive_loop(self.shared, Side::new(self.pass, self.link))
     }
 }
 
-impl<S: Start, L: Link, A: AgentName> Promise<Ended<L, A>> for Receives<S> {
-    ghost kept_by = { λ p r. Lasted (receives S.wait) L.tells S.bound S.endless S.line
-        (line (L.log r.link) (L.failed r.link)) S.own r.spent r.end };
+/// What the receiving loop leaves. If it had no thread, its end says that memory was refused.
+pub(crate) fn end_of<L, A: AgentName>(received: Ended<L, A>, had_thread: bool) -> Ended<L, A>
+    ensures had { had_thread ≡ true → result ≡ received }
+    ensures lacked { had_thread ≡ false
+        → result ≡ record received { end = record received.end { why = Refused NoMemory } } }
+{
+    let mut received = received;
+    if !had_thread {
+        received.end.why = Why::Refused(Refusal::NoMemory);
+    }
+    received
 }

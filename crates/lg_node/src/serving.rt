@@ -157,6 +157,9 @@ fn report_end<F: FaultStream>(served: Served, faults: &mut F)
     }
 }
 
+/// What a status server leaves: its pass, the stream of faults, and how it ended, if there was one.
+pub type ServerLeft<'p, 'f, A, F> = (Pass<'p, A>, (&'f mut F, Option<Served>));
+
 /// Serves with a pass until the loops have ended, if there is a status server. Otherwise it does nothing. A server that
 /// ends before that by itself is reported. Gives the pass and the stream back, with how the server ended.
 pub(crate) fn serve_if<'p, 'f, A: AgentName, R: rt::Clock, C: Clock, F: FaultStream>(
@@ -166,7 +169,7 @@ pub(crate) fn serve_if<'p, 'f, A: AgentName, R: rt::Clock, C: Clock, F: FaultStr
     status: Option<StatusServer<'_, '_, R>>,
     pass: Pass<'p, A>,
     faults: &'f mut F,
-) -> (Pass<'p, A>, (&'f mut F, Option<Served>))
+) -> ServerLeft<'p, 'f, A, F>
     requires free { IfSome status (λ status. AreFree (slots_of status.server)) }
     requires name { shared.now.counters.now.name ≡ config.now.name }
     ensures same { result.1.0.ghost_name ≡ faults.entry.ghost_name }
@@ -197,7 +200,7 @@ where
     pub(crate) faults: &'f mut F,
 }
 
-impl<'x, 'a, 'n, 's, 'r, 'p, 'f, A, R, C, F> Work<(Pass<'p, A>, (&'f mut F, Option<Served>))>
+impl<'x, 'a, 'n, 's, 'r, 'p, 'f, A, R, C, F> Work<ServerLeft<'p, 'f, A, F>>
     for Serving<'x, 'a, 'n, 's, 'r, 'p, 'f, A, R, C, F>
 where
     A: AgentName,
@@ -216,7 +219,7 @@ where
         self.server.is_some()
     }
 
-    fn work(self) -> (Pass<'p, A>, (&'f mut F, Option<Served>)) {
+    fn work(self) -> ServerLeft<'p, 'f, A, F> {
         serve_if(
             self.shared,
             self.config,

@@ -19,6 +19,7 @@ ghost use Rattle.lg_node.specs.Meaning.Starts.{stall_of, turn_wait};
 
 use crate::beginning::begin;
 use crate::closing::{close, leave};
+use crate::following::Watching;
 use crate::node::{NodeEnd, NodeFault, Settings};
 use crate::serving::StatusServer;
 use crate::threads::join_threads;
@@ -115,16 +116,11 @@ where
         Err(refusal) => return Err(give_up(rt, agent, room, commons, refusal)),
     };
     let unsent = ready.unsent;
-    let (looked, (both, (writer, faults))) = join_threads(
-        &shared,
-        ready.sides,
-        ready.lookers,
-        writer,
-        faults,
-    );
+    let watching = Watching::new(&shared, setup.settings.follow, ready.asker, writer);
+    let joined = join_threads(&shared, ready.sides, ready.server, watching, faults);
+    let (left, (writer, faults)) = leave(setup.alloc, joined, unsent);
     take_back(writer);
     take_back(faults);
-    let left = leave(setup.alloc, looked, both, unsent);
     Ok(close(rt, agent, left, room, commons))
 }
 

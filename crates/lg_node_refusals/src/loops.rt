@@ -7,8 +7,8 @@ use left_right::Absorb;
 use lg_agent::{AgentName, Pass, Spent};
 use lg_detector::Event;
 use lg_node::{
-    Both, ChangeSignal, Counters, Ended, Looked, Lookers, LoopEnd, MAX_TURNS, PcgDice, Plan,
-    Settings, Shared, Side, Sides, StatusServer, Watched, join_threads, receive_loop, tick_loop,
+    Both, ChangeSignal, Counters, Ended, LoopEnd, MAX_TURNS, PcgDice, Plan, ServerSide, Settings,
+    Shared, Side, Sides, StatusServer, Watched, Watching, join_threads, receive_loop, tick_loop,
 };
 use lg_rules::Name;
 use lg_testing::{Room, at, letter, local};
@@ -248,6 +248,17 @@ fn taken<'p, A: AgentName>(passes: Vec<Pass<'p, A>>) -> Option<Four<'p, A>> {
     })
 }
 
+/// What those leave who only look: each pass, and how the watcher ended, if the node was followed.
+#[derive(Drop)]
+struct Looked<'p, A: AgentName>
+where
+    Published<A>: Absorb<Update<A>, State = [Event; 0]>,
+{
+    watcher: Pass<'p, A>,
+    watched: Option<Watched>,
+    status: Pass<'p, A>,
+}
+
 /// What the threads of a node leave, and what its watcher told.
 type Ran<'p, 'm, R, A> = (Looked<'p, A>, Both<PingLink<'m, R>, A>, Text);
 
@@ -282,15 +293,20 @@ where
         ticks_until(MAX_MOMENT, false),
     );
     let server: Option<StatusServer<'m, 'm, R>> = None;
-    let lookers = Lookers {
+    let server = ServerSide {
         config: &config,
         settings: &settings,
-        watcher,
-        status,
+        pass: status,
         server,
     };
     let (mut writer, mut faults) = (Room::failing(0), Room::failing(0));
-    let (looked, (both, _)) = join_threads(&shared, sides, lookers, &mut writer, &mut faults);
+    let watching = Watching::new(&shared, follow, watcher, &mut writer);
+    let (watched, (served, both)) = join_threads(&shared, sides, server, watching, &mut faults);
+    let looked = Looked {
+        watcher: watched.0,
+        watched: watched.1.1,
+        status: served.0,
+    };
     (looked, both, Text::of(&writer))
 }
 

@@ -1,7 +1,7 @@
 -- With what a node starts: the stall of its clock, the wait of its turns, and the configuration that its status server
 -- shows.
 use Rattle.std.specs.Prelude.{◌≡◌, ℕ, ◌/◌, ◌==◌, min, max, if◌then◌else◌, codes}
-use Rattle.std.specs.Prelude.{List, [], ◌∷◌, map, Option, Some, None, Bool, false}
+use Rattle.std.specs.Prelude.{List, [], ◌∷◌, map, Option, Some, None}
 use Rattle.lg_rules.specs.declared.addr.Addr.{Addr}
 use Rattle.lg_rules.specs.Meaning.Addr.{is_loopback}
 use Rattle.lg_timing.specs.declared.config.Config.{Config}

@@ -1,5 +1,5 @@
 -- What a node has done before its threads.
-use Rattle.std.specs.Prelude.{◌≡◌, ℕ, [], false}
+use Rattle.std.specs.Prelude.{◌≡◌, ℕ, false}
 use Rattle.lg_timing.specs.declared.config.Config.{Config}
 use Rattle.lg_agent.specs.Meaning.Values.{PassValue}
 use Rattle.lg_loops.specs.Meaning.Asking.{Asked}

@@ -10,8 +10,8 @@ use lg_agent::{AgentName, Pass, Spent};
 use lg_agent_testing::{Case, Ending, Left, Outcome};
 use lg_detector::Event;
 use lg_node::{
-    Both, ChangeSignal, Counters, Looked, Lookers, LoopEnd, PcgDice, Settings, Shared, Side, Sides,
-    StatusServer, Watched, Why, join_threads,
+    Both, ChangeSignal, Counters, LoopEnd, PcgDice, ServerSide, Settings, Shared, Side, Sides,
+    StatusServer, Watched, Watching, Why, join_threads,
 };
 use lg_testing::{Room, at, letter, local};
 use lg_timing::{Config, MAX_MOMENT};
@@ -160,6 +160,17 @@ fn shared<'a, R, C>(
     }
 }
 
+/// What those leave who only look: each pass, and how the watcher ended, if the node was followed.
+#[derive(Drop)]
+struct Looked<'p, A: AgentName>
+where
+    Published<A>: Absorb<Update<A>, State = [Event; 0]>,
+{
+    watcher: Pass<'p, A>,
+    watched: Option<Watched>,
+    status: Pass<'p, A>,
+}
+
 /// What the threads of a node leave, and what its watcher told.
 type Ran<'p, 'm, R, A> = (Looked<'p, A>, Both<MeetingLink<'m, R>, A>, Text);
 
@@ -198,16 +209,21 @@ where
         ticks_until(at(MAX_MOMENT)),
     );
     let server: Option<StatusServer<'m, 'm, R>> = None;
-    let lookers = Lookers {
+    let server = ServerSide {
         config: &config,
         settings: &settings,
-        watcher,
-        status,
+        pass: status,
         server,
     };
     let mut writer = Room::failing(0);
     let mut faults = Room::failing(0);
-    let (looked, (both, _)) = join_threads(&shared, sides, lookers, &mut writer, &mut faults);
+    let watching = Watching::new(&shared, run.follow, watcher, &mut writer);
+    let (watched, (served, both)) = join_threads(&shared, sides, server, watching, &mut faults);
+    let looked = Looked {
+        watcher: watched.0,
+        watched: watched.1.1,
+        status: served.0,
+    };
     (looked, both, Text::of(&writer))
 }
 

@@ -1,4 +1,4 @@
-use Rattle.std.proofs.Common.{◌≡◌, [], rules}
+use Rattle.std.proofs.Common.{[], rules}
 use Rattle.lg_loops.specs.Meaning.Turns.{line}
 use Rattle.lg_loops.specs.Meaning.NodeLinks.{failures_of}
 use Rattle.lg_node.proofs.start.open_and_serve.Goals as goal
@@ -11,26 +11,26 @@ returns-clause-ran g c =
     let told = c.in-Ok-begin.ensures.told in
     let left = c.leave-left in
     let end = c.close.ensures in
-    let threads = c.join_threads-looked in record {
+    let threads = c.join_threads-joined in record {
       start = opened.told.0;
-      receiver = left.result.receiver;
-      ticker = left.result.ticker;
-      reader = left.result.reader;
-      status = left.result.status;
+      receiver = left.result.0.receiver;
+      ticker = left.result.0.ticker;
+      reader = left.result.0.reader;
+      status = left.result.0.status;
       worked =
           record {
             hears = line [] (failures_of ready.sides.receiver.link);
-            hears' = line [] (failures_of threads.result.1.0.0.link);
+            hears' = line [] (failures_of threads.result.1.1.0.link);
             sends = begun.sends;
-            sends' = line [] (failures_of threads.result.1.0.1.link);
-            asker = ready.lookers.watcher;
-            watcher = threads.result.0.watcher;
+            sends' = line [] (failures_of threads.result.1.1.1.link);
+            asker = ready.asker;
+            watcher = threads.result.0.0;
             links = begun.links;
             looped =
                 record {
                   between = line [] (failures_of ready.sides.ticker.link);
                   unsent = ready.unsent;
-                  later = threads.result.1.0.1.end.unsent;
+                  later = threads.result.1.1.1.end.unsent;
                   asked = begun.asked;
                   ran = rw (
                     end.received,
