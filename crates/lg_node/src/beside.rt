@@ -1,41 +1,57 @@
-//! The threads of a node, whatever they do: the work of one loop in a thread of its own and of the other in the
-//! caller's, and beside them what a watcher and a status server do, if they are wanted.
+//! The threads of a node, whatever they do beside the ticking loop: the work of the receiving loop, of a watcher and of a
+//! status server.
 //!
-//! The work is a type parameter each, since the checker looks through all types that a thread is handed, and those of a
-//! pass lead to the whole agent.
+//! This work is a type parameter each, since the checker looks through all types that a thread is handed, and those of
+//! a pass lead to the whole agent.
 //!
-//! Defined in: this file.
+//! Defined in: `lg_loops/specs/Meaning/Turns.antt`, `lg_loops/specs/Meaning/Pulling.antt`.
 //! Tested in: `lg_node_tests/src/node/both.rt`, `lg_node_refusals/src/refused_memory.rt`.
-ghost use Rattle.std.specs.Prelude.{Bool};
+ghost use Rattle.std.specs.Prelude.{◌≡◌, ◌≤◌, true, false};
+ghost use Rattle.lg_loops.specs.Meaning.Pulling.{Ticking};
+ghost use Rattle.lg_loops.specs.Meaning.Turns.{line, unstarted, MadeNoTurn};
+ghost use Rattle.lg_loops.specs.Meaning.Words.{DrawsEight};
 
 use crate::parts::{Does, Work, join_or_do, start_if};
+use left_right::Absorb;
+use lg_agent::AgentName;
+use lg_clock::Clock;
+use lg_detector::Event;
 use lg_http::Signal;
-use lg_loops::ChangeSignal;
+use lg_loops::{Ended, Link, MAX_TURNS, PcgDice, Plan, Shared, Side, tick_loop};
+use lg_view::{Published, Update};
 use std::sync::Wait;
-use std::sync::atomic::AtomicBool;
 use std::sync::atomic::Ordering::SeqCst;
 use std::thread;
 use std::thread::Threads;
 
-/// By what the threads of a node are told that its loops have ended.
-#[derive(Drop)]
-pub(crate) struct LoopsOver<'a> {
-    /// Set if the receiving loop is to end.
-    pub(crate) over: &'a AtomicBool,
-    /// What the watcher waits for.
-    pub(crate) changes: &'a ChangeSignal,
-    /// By which the status server is told to stop, if there is one.
-    pub(crate) signal: Option<&'a Signal>,
+/// Tells those who look that the loops have ended.
+fn tell_ended<R: Wait, C>(shared: &Shared<'_, R, C>, signal: Option<&Signal>) {
+    shared.changes.set(shared.rt);
+    if let Some(signal) = signal {
+        signal.stop();
+    }
 }
 
-impl LoopsOver<'_> {
-    /// Tells those who look that the loops have ended.
-    fn tell<R: Wait>(&self, rt: &R) {
-        self.changes.set(rt);
-        if let Some(signal) = self.signal {
-            signal.stop();
-        }
-    }
+/// What the ticking loop gives back if the receiving one has no thread, so that nobody would hear for it.
+fn without_turn<L, A: AgentName>(side: Side<'_, L, A>, dice: PcgDice, plan: Plan) -> Ended<L, A>
+    ensures link { result.link ≡ side.entry.link }
+    ensures spent { result.spent ≡ side.entry.pass }
+    ensures end { result.end ≡ unstarted }
+{
+    drop(dice);
+    drop(plan);
+    side.unstarted()
+}
+
+/// What the ticking loop works with.
+#[derive(Drop)]
+pub(crate) struct Ticks<'t, L, A: AgentName>
+where
+    Published<A>: Absorb<Update<A>, State = [Event; 0]>,
+{
+    pub(crate) side: Side<'t, L, A>,
+    pub(crate) dice: PcgDice,
+    pub(crate) plan: Plan,
 }
 
 /// What was done side by side.
@@ -45,7 +61,7 @@ pub(crate) struct Done<E, F, T, U> {
     pub(crate) received: E,
     /// Whether a thread could be started for it. If not, it was done once it was told that the loops are over.
     pub(crate) had_thread: bool,
-    /// What the caller's own work gave.
+    /// What the ticking loop gave back.
     pub(crate) ticked: F,
     /// What the watcher's work gave.
     pub(crate) watched: T,
@@ -53,48 +69,66 @@ pub(crate) struct Done<E, F, T, U> {
     pub(crate) served: U,
 }
 
-/// Does all four pieces of work in a scope, each in a thread of its own but the ticking loop's, which is done in this
-/// one. The watcher's and the server's are started first, if they are wanted. When both loops have ended, those who
-/// look are told so. Work for which no thread is wanted or could be started is done here, when the loops have ended.
+/// Runs the ticking loop in this thread, and does the other work beside it, each piece in a thread of its own. All are
+/// of one scope. The watcher's and the server's are started first, if they are wanted. When both loops have ended, those
+/// who look are told so. Work for which no thread is wanted or could be started is done here, when the loops have ended.
 ///
 /// If no thread can be started for the receiving loop, the flag that the loops are over is set first, its work is done
-/// here, and the ticking loop's is handed `false`.
-pub(crate) fn do_beside<R, Y, E, Z, F, V, T, X, U>(
-    rt: &R,
-    over: &LoopsOver<'_>,
+/// here, and the ticking loop makes no turn.
+pub(crate) fn tick_beside<A, R, L, C, Y, E, V, T, X, U>(
+    shared: &Shared<'_, R, C>,
+    signal: Option<&Signal>,
+    ticks: Ticks<'_, L, A>,
     receiving: Y,
-    ticking: Z,
     watching: V,
     serving: X,
-) -> Done<E, F, T, U>
+) -> Done<E, Ended<L, A>, T, U>
 where
+    A: AgentName + Send + Sync,
     R: Wait + Threads + Sync,
+    L: Link + Send + Drop,
+    C: Clock + Sync,
     Y: Work<E> + Send + Drop,
     E: Send + Drop,
-    Z: FnOnce(bool) -> F,
     V: Work<T> + Send + Drop,
     T: Send + Drop,
     X: Work<U> + Send + Drop,
     U: Send + Drop,
+    requires bound { shared.now.bound ≤ MAX_TURNS }
     requires receives { Y.needs receiving }
-    requires ticks { (heard : Bool) → Z.pre ticking heard }
     requires watches { V.needs watching }
     requires serves { X.needs serving }
     ensures received { Y.gives receiving result.received }
-    ensures ticked { Z.post ticking result.had_thread result.ticked }
+    ensures heard { result.had_thread ≡ true → Ticking DrawsEight ticks.entry.dice ticks.entry.plan L.tells
+        shared.now.bound shared.now.endless (line (L.log ticks.entry.side.link) (L.failed ticks.entry.side.link))
+        (line (L.log result.ticked.link) (L.failed result.ticked.link)) ticks.entry.side.pass
+        result.ticked.spent result.ticked.end }
+    ensures unheard { result.had_thread ≡ false → MadeNoTurn
+        (line (L.log ticks.entry.side.link) (L.failed ticks.entry.side.link))
+        (line (L.log result.ticked.link) (L.failed result.ticked.link)) ticks.entry.side.pass
+        result.ticked.spent result.ticked.end }
     ensures watched { V.gives watching result.watched }
     ensures served { X.gives serving result.served }
 {
+    let Ticks { side, dice, plan } = ticks;
     thread::scope(
         thread::scope_env(),
-        rt,
-        move |scope| -> Done<E, F, T, U>
+        shared.rt,
+        move |scope| -> Done<E, Ended<L, A>, T, U>
+            requires bound { shared.now.bound ≤ MAX_TURNS }
             requires receives { Y.needs receiving }
-            requires ticks { (heard : Bool) → Z.pre ticking heard }
             requires watches { V.needs watching }
             requires serves { X.needs serving }
             ensures received { Y.gives receiving result.received }
-            ensures ticked { Z.post ticking result.had_thread result.ticked }
+            ensures heard { result.had_thread ≡ true → Ticking DrawsEight dice plan L.tells
+                shared.entry.now.bound shared.entry.now.endless
+                (line (L.log side.entry.link) (L.failed side.entry.link))
+                (line (L.log result.ticked.link) (L.failed result.ticked.link)) side.entry.pass
+                result.ticked.spent result.ticked.end }
+            ensures unheard { result.had_thread ≡ false → MadeNoTurn
+                (line (L.log side.entry.link) (L.failed side.entry.link))
+                (line (L.log result.ticked.link) (L.failed result.ticked.link)) side.entry.pass
+                result.ticked.spent result.ticked.end }
             ensures watched { V.gives watching result.watched }
             ensures served { X.gives serving result.served }
         {
@@ -102,18 +136,20 @@ where
             let serving = start_if(scope, Does::of(&serving), move || serving.work());
             let receiving = start_if(scope, Does::of(&receiving), move || receiving.work());
             let had_thread = receiving.0.is_ok();
-            if !had_thread {
-                over.over.store(true, SeqCst);
-            }
-            let ticked = ticking(had_thread);
-            let received = join_or_do(rt, receiving);
-            over.tell(rt);
+            let ticked = if had_thread {
+                tick_loop(shared, side, dice, plan)
+            } else {
+                shared.over.store(true, SeqCst);
+                without_turn(side, dice, plan)
+            };
+            let received = join_or_do(shared.rt, receiving);
+            tell_ended(shared, signal);
             Done {
                 received,
                 had_thread,
                 ticked,
-                watched: join_or_do(rt, watching),
-                served: join_or_do(rt, serving),
+                watched: join_or_do(shared.rt, watching),
+                served: join_or_do(shared.rt, serving),
             }
         },
     )

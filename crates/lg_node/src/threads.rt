@@ -9,7 +9,7 @@
 //! receiving loop   behind these               at the ticking loop's end or a fault     ticking loop
 //! ```
 //!
-//! All are of one scope: `do_beside` (`beside.rt`) starts and joins them, whatever they do. What a thread does is told
+//! All are of one scope: `tick_beside` (`beside.rt`) starts and joins them, whatever they do. What a thread does is told
 //! in one place: `Watching` (`following.rt`), `Serving` (`serving.rt`), `Receiving` (`receiving.rt`) and [`tick_loop`].
 //! The program has two more threads, which nobody joins. One writes what a followed node tells
 //! (`lg_cli/src/output.rt`), and one reads the input whose end is to end the node (`lg_cli/src/node.rt`). The receiving
@@ -21,15 +21,14 @@
 //! `lg_loops/specs/Meaning/BothLoops.antt`.
 //! Tested in: `lg_node_tests/src/node/both.rt`, `lg_node_refusals/src/refused_memory.rt`, `cases/nodes`,
 //! `cases/groups`, `cases/status`.
-ghost use Rattle.std.specs.Prelude.{◌≡◌, ◌≤◌, true, false, is_some, IfSome};
+ghost use Rattle.std.specs.Prelude.{◌≡◌, ◌≤◌, is_some, IfSome};
 ghost use Rattle.lg_http.specs.Meaning.Slots.{AreFree, slots_of};
 ghost use Rattle.lg_node.specs.Meaning.Nodes.{ServesIf, TellsServed};
 ghost use Rattle.lg_loops.specs.Meaning.BothLoops.{BothRan};
-ghost use Rattle.lg_loops.specs.Meaning.Pulling.{Ticking};
-ghost use Rattle.lg_loops.specs.Meaning.Turns.{line, MadeNoTurn};
+ghost use Rattle.lg_loops.specs.Meaning.Turns.{line};
 ghost use Rattle.lg_loops.specs.Meaning.Words.{DrawsEight};
 
-use crate::beside::{LoopsOver, do_beside};
+use crate::beside::{Ticks, tick_beside};
 use crate::node::Settings;
 use crate::parts::Work;
 use crate::receiving::{Receiving, end_of};
@@ -39,7 +38,7 @@ use lg_agent::{AgentName, Pass};
 use lg_clock::Clock;
 use lg_detector::Event;
 use lg_http::Signal;
-use lg_loops::{Ended, Link, MAX_TURNS, PcgDice, Plan, Shared, Side, tick_loop};
+use lg_loops::{Ended, Link, MAX_TURNS, PcgDice, Plan, Shared, Side};
 use lg_text::FaultStream;
 use lg_timing::Config;
 use lg_view::{Published, Update};
@@ -109,8 +108,8 @@ where
 }
 
 /// Runs both loops as [`join_threads`] says, with this work of the watcher and of the status server. The watcher's work
-/// is made by the caller of [`join_threads`], and the server's by that, since the checker can't prove a function that
-/// makes two of the three.
+/// is made by the caller of [`join_threads`], the server's by that, and the receiving loop's here, since the checker
+/// can't prove a function that makes two of them.
 fn loops_with<A, R, L, C, V, T, X, U>(
     shared: &Shared<'_, R, C>,
     sides: Sides<'_, '_, L, A>,
@@ -140,32 +139,14 @@ where
         (line (L.log result.0.1.link) (L.failed result.0.1.link)) sides.entry.ticker.pass
         result.0.1.spent result.0.1.end }
 {
-    let (receiver, ticker, dice, plan) = (sides.receiver, sides.ticker, sides.dice, sides.plan);
-    let ticking = move |heard: bool| -> Ended<L, A>
-        requires { shared.now.bound ≤ MAX_TURNS }
-        ensures heard { heard ≡ true → Ticking DrawsEight dice plan L.tells shared.entry.now.bound
-            shared.entry.now.endless (line (L.log ticker.entry.link) (L.failed ticker.entry.link))
-            (line (L.log result.link) (L.failed result.link)) ticker.entry.pass result.spent result.end }
-        ensures unheard { heard ≡ false → MadeNoTurn
-            (line (L.log ticker.entry.link) (L.failed ticker.entry.link))
-            (line (L.log result.link) (L.failed result.link)) ticker.entry.pass result.spent result.end }
-    {
-        if heard {
-            tick_loop(shared, ticker, dice, plan)
-        } else {
-            drop(dice);
-            drop(plan);
-            ticker.unstarted()
-        }
+    let ticks = Ticks {
+        side: sides.ticker,
+        dice: sides.dice,
+        plan: sides.plan,
     };
-    let over = LoopsOver {
-        over: shared.over,
-        changes: shared.changes,
-        signal,
-    };
-    let Side { pass, link } = receiver;
+    let Side { pass, link } = sides.receiver;
     let receiving = Receiving { shared, pass, link };
-    let done = do_beside(shared.rt, &over, receiving, ticking, watching, serving);
+    let done = tick_beside(shared, signal, ticks, receiving, watching, serving);
     let received = end_of(done.received, done.had_thread);
     ((received, done.ticked), (done.watched, done.served))
 }
