@@ -1,5 +1,5 @@
-//! The threads of a node, whatever they do beside the ticking loop: the work of the receiving loop, of a watcher and of a
-//! status server.
+//! The threads of a node, whatever they do beside the ticking loop: the work of the receiving loop, of a watcher and of
+//! a status server.
 //!
 //! This work is a type parameter each, since the checker looks through all types that a thread is handed, and those of
 //! a pass lead to the whole agent.
@@ -70,8 +70,9 @@ pub(crate) struct Done<E, F, T, U> {
 }
 
 /// Runs the ticking loop in this thread, and does the other work beside it, each piece in a thread of its own. All are
-/// of one scope. The watcher's and the server's are started first, if they are wanted. When both loops have ended, those
-/// who look are told so. Work for which no thread is wanted or could be started is done here, when the loops have ended.
+/// of one scope. The watcher's and the server's are started first, if they are wanted. When both loops have ended,
+/// those who look are told so. Work for which no thread is wanted or could be started is done here, when the loops have
+/// ended.
 ///
 /// If no thread can be started for the receiving loop, the flag that the loops are over is set first, its work is done
 /// here, and the ticking loop makes no turn.
@@ -120,15 +121,13 @@ where
             requires watches { V.needs watching }
             requires serves { X.needs serving }
             ensures received { Y.gives receiving result.received }
-            ensures heard { result.had_thread ≡ true → Ticking DrawsEight dice plan L.tells
-                shared.entry.now.bound shared.entry.now.endless
-                (line (L.log side.entry.link) (L.failed side.entry.link))
-                (line (L.log result.ticked.link) (L.failed result.ticked.link)) side.entry.pass
-                result.ticked.spent result.ticked.end }
+            ensures heard { result.had_thread ≡ true → Ticking DrawsEight dice plan L.tells shared.entry.now.bound
+                shared.entry.now.endless (line (L.log side.entry.link) (L.failed side.entry.link))
+                (line (L.log result.ticked.link) (L.failed result.ticked.link)) side.entry.pass result.ticked.spent
+                result.ticked.end }
             ensures unheard { result.had_thread ≡ false → MadeNoTurn
-                (line (L.log side.entry.link) (L.failed side.entry.link))
-                (line (L.log result.ticked.link) (L.failed result.ticked.link)) side.entry.pass
-                result.ticked.spent result.ticked.end }
+                (line (L.log side.entry.link) (L.failed side.entry.link)) (line (L.log result.ticked.link)
+                (L.failed result.ticked.link)) side.entry.pass result.ticked.spent result.ticked.end }
             ensures watched { V.gives watching result.watched }
             ensures served { X.gives serving result.served }
         {

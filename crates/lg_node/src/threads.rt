@@ -9,8 +9,9 @@
 //! receiving loop   behind these               at the ticking loop's end or a fault     ticking loop
 //! ```
 //!
-//! All are of one scope: `tick_beside` (`beside.rt`) starts and joins them, whatever they do. What a thread does is told
-//! in one place: `Watching` (`following.rt`), `Serving` (`serving.rt`), `Receiving` (`receiving.rt`) and [`tick_loop`].
+//! All are of one scope: `tick_beside` (`beside.rt`) starts and joins them, whatever they do. What a thread does is
+//! told in one place: `Watching` (`following.rt`), `Serving` (`serving.rt`), `Receiving` (`receiving.rt`) and
+//! `tick_loop` (of `lg_loops`).
 //! The program has two more threads, which nobody joins. One writes what a followed node tells
 //! (`lg_cli/src/output.rt`), and one reads the input whose end is to end the node (`lg_cli/src/node.rt`). The receiving
 //! loop sets the stop flag when it ends, at which the ticking one ends, and this one sets the flag that it is over, at
