@@ -117,9 +117,7 @@ where
         shared.rt,
         move |scope| -> Done<E, Ended<L, A>, T, U>
             requires bound { shared.now.bound ≤ MAX_TURNS }
-            requires receives { Y.needs receiving }
-            requires watches { V.needs watching }
-            requires serves { X.needs serving }
+            requires work { Y.needs receiving × V.needs watching × X.needs serving }
             ensures received { Y.gives receiving result.received }
             ensures heard { result.had_thread ≡ true → Ticking DrawsEight dice plan L.tells shared.entry.now.bound
                 shared.entry.now.endless (line (L.log side.entry.link) (L.failed side.entry.link))
