@@ -10,7 +10,7 @@ from asking import Link, changes_after, on_connection, request
 from checks import NOTES
 from packets import HOST, IN_A_PACKET, claim, name_bytes, ping
 from running import (
-    LIFE_MS, PATIENCE, Node, asked, bound_socket, file_of, free_ports, free_status_ports, table_of, wait_for)
+    LIFE_MS, PATIENCE, Node, asked, bound_socket, file_of, free_ports, free_status_ports, moment, table_of, wait_for)
 from unread import Stranger
 
 # Rounds are so rare that only strangers change anything.
@@ -81,10 +81,10 @@ def fault_of_a_change(node, version, incarnation):
     answer, and how long it came behind the stranger's packet."""
     with Link(node.status, request(f"/v1/changes?after={version}&wait_ms=10000")) as link:
         time.sleep(0.02)
-        begun = time.monotonic()
+        begun = moment()
         node.tell(incarnation)
         answer = link.answer()
-        took = time.monotonic() - begun
+        took = moment() - begun
     if answer is None or answer.code != 200:
         return f"a poll that waited got {answer}", version, took
     answer = answer.value()

@@ -27,6 +27,23 @@ PR_SET_PDEATHSIG = 1
 HELD = []
 
 
+# ---- Time
+
+
+def kept_by_the_host():
+    """For how many seconds the host of this machine has kept its processors from what would have run on them: the mean
+    of all processors, since the machine's start."""
+    with open("/proc/stat", encoding="utf-8") as stat:
+        stolen = int(stat.readline().split()[8])
+    return stolen / os.sysconf("SC_CLK_TCK") / os.cpu_count()
+
+
+def moment():
+    """A moment in seconds, by a clock that leaves out what the host kept. So a limit of time means the same on a machine
+    that gets a part of its processors."""
+    return time.monotonic() - kept_by_the_host()
+
+
 # ---- Ports
 
 
@@ -134,11 +151,14 @@ class Node:
         """Its status, what it wrote and what it told, once it has ended; one that doesn't end is killed."""
         if self.ended:
             return self.ended
-        try:
-            output, errors = self.process.communicate(timeout=seconds)
-        except subprocess.TimeoutExpired:
-            self.process.kill()
-            output, errors = self.process.communicate()
+        limit = moment() + seconds
+        while True:
+            try:
+                output, errors = self.process.communicate(timeout=max(0.1, limit - moment()))
+                break
+            except subprocess.TimeoutExpired:
+                if moment() >= limit:
+                    self.process.kill()
         self.path.unlink()
         self.ended = self.process.returncode, output, errors
         return self.ended
@@ -164,13 +184,14 @@ def asked(data, port, seconds=2.0):
 
 
 def wait_until(holds, seconds):
-    """Waits until something holds. Gives how many seconds that took, or None if it still doesn't hold after so many."""
-    begun = time.monotonic()
+    """Waits until something holds. Gives how many seconds that took, or None if it still doesn't hold after so many. What
+    the host kept of the processors meanwhile doesn't count."""
+    begun = moment()
     while not holds():
-        if time.monotonic() - begun > seconds:
+        if moment() - begun > seconds:
             return None
         time.sleep(0.05)
-    return time.monotonic() - begun
+    return moment() - begun
 
 
 def wait_for(name, port, group=""):
