@@ -6,6 +6,8 @@ import sys
 import time
 from concurrent.futures import ProcessPoolExecutor
 
+from host import tried_until
+
 # What the check that this process runs has noted of itself.
 NOTES = []
 # What a check may come to.
@@ -25,6 +27,12 @@ def needed(*names):
 
 
 def outcome(check, program):
+    """What a check came to, and its line, as `outcome_once` gives them. One that fails while the host kept much of the
+    processors is tried again."""
+    return tried_until(lambda ended: ended[0] != FAILED, lambda: outcome_once(check, program))
+
+
+def outcome_once(check, program):
     """What a check came to, and its line: what is wrong or wasn't there, how long it took, and what it noted. `./test`
     shows the lines that begin with FAILED or SKIPPED once more at its end."""
     NOTES.clear()

@@ -13,6 +13,7 @@ import subprocess
 import tempfile
 import time
 
+from host import moment
 from packets import HOST, IN_A_PACKET, LONGEST, Record, ping, pull, read
 
 SECONDS = 30
@@ -25,23 +26,6 @@ LIBC = ctypes.CDLL(None)
 PR_SET_PDEATHSIG = 1
 # The sockets that stand for the ports which this process has taken.
 HELD = []
-
-
-# ---- Time
-
-
-def kept_by_the_host():
-    """For how many seconds the host of this machine has kept its processors from what would have run on them: the mean
-    of all processors, since the machine's start."""
-    with open("/proc/stat", encoding="utf-8") as stat:
-        stolen = int(stat.readline().split()[8])
-    return stolen / os.sysconf("SC_CLK_TCK") / os.cpu_count()
-
-
-def moment():
-    """A moment in seconds, by a clock that leaves out what the host kept. So a limit of time means the same on a machine
-    that gets a part of its processors."""
-    return time.monotonic() - kept_by_the_host()
 
 
 # ---- Ports
