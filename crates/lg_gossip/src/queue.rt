@@ -37,7 +37,7 @@ pub struct Queue {
     version: Version,
     /// No claim was sent less often than this, so that a packet needn't look at all of them.
     fewest: u64,
-    /// Only the first so many sets have rows: a bound by the greatest limit of a packet so far.
+    /// No set from this index on has a row. It grows with the limit of a packet.
     used: usize,
     /// The indexes of the rows by how often they were sent: a set for each number of sends below 30.
     sent: [BitSet; SETS],

@@ -71,8 +71,8 @@ pub(crate) struct Done<E, F, T, U> {
 
 /// Runs the ticking loop in this thread, and does the other work beside it, each piece in a thread of its own. All are
 /// of one scope. The watcher's and the server's are started first, if they are wanted. When both loops have ended,
-/// those who look are told so. Work for which no thread is wanted or could be started is done here, when the loops have
-/// ended.
+/// those who look are told so. The watcher's and the server's work, if no thread is wanted or could be started for it,
+/// is done here after that.
 ///
 /// If no thread can be started for the receiving loop, the flag that the loops are over is set first, its work is done
 /// here, and the ticking loop makes no turn.

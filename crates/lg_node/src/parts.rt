@@ -16,7 +16,7 @@ pub trait Work<T> {
     // What holds of it, as it began, and of what it gave.
     ghost gives: { Self → T → Type 0 };
 
-    /// Whether it is wanted in a thread of its own.
+    /// Whether it is wanted in a thread of its own. If it isn't, it is done without one. No clause speaks of this.
     fn is_wanted(&self) -> bool;
 
     /// Does it.

@@ -108,9 +108,10 @@ where
     pub server: Option<StatusServer<'s, 'r, R>>,
 }
 
-/// Runs both loops as [`join_threads`] says, with this work of the watcher and of the status server. The watcher's work
-/// is made by the caller of [`join_threads`], the server's by that, and the receiving loop's here, since the checker
-/// can't prove a function that makes two of them.
+/// Runs both loops as [`join_threads`] says, with this work of the watcher and of the status server.
+///
+/// The caller of [`join_threads`] makes the watcher's work, [`join_threads`] makes the server's, and this function makes
+/// the receiving loop's. The checker can't prove a function that makes two of them.
 fn loops_with<A, R, L, C, V, T, X, U>(
     shared: &Shared<'_, R, C>,
     sides: Sides<'_, '_, L, A>,

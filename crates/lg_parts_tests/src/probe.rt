@@ -318,6 +318,10 @@ fn picks_helpers(rt: HostRuntime) {
             &[5, 5, 5, 0, 0, 0, 0, 0],
         );
         assert!(rt; are_named(helpers.names(), picked), "{helpers:?}");
+        for index in 0..helpers.names().len() {
+            let likely = members.get(helpers.likely_index(index));
+            assert!(rt; likely == picked.get(index), "{index} of {helpers:?}");
+        }
     }
 }
 

@@ -20,7 +20,7 @@ pub const MAX_HELPERS: usize = RANDOM_WORDS;
 pub struct Helpers {
     names: ArrayVec<Name, MAX_HELPERS>,
     // At the index of each name, how many of the names that the order knows come before it.
-    places: [u8; MAX_HELPERS],
+    indexes: [u8; MAX_HELPERS],
 }
 
 impl Model for Helpers {
@@ -38,11 +38,11 @@ impl Helpers {
     {
         Helpers {
             names: ArrayVec::new(),
-            places: [0; MAX_HELPERS],
+            indexes: [0; MAX_HELPERS],
         }
     }
 
-    /// Replaces the helpers by at most `k` new ones. They are picked from the names that have joined `others` and not
+    /// Reindexes the helpers by at most `k` new ones. They are picked from the names that have joined `others` and not
     /// left. The target isn't picked. `k` is at most 8.
     ///
     /// They are picked one after another, until `k` are picked or no name remains. Each word picks the name whose
@@ -55,10 +55,10 @@ impl Helpers {
         ensures past { (past : List OrderFact) → others.now ≡ order_after past
             → self.new ≡ picked k words.now (without target.now (names_after past)) }
     {
-        others.pick(target, &words[..k], &mut self.names, &mut self.places);
+        others.pick(target, &words[..k], &mut self.names, &mut self.indexes);
     }
 
-    /// Replaces the helpers by at most `count` new ones. They are picked as `pick` does, from all the names that have
+    /// Reindexes the helpers by at most `count` new ones. They are picked as `pick` does, from all the names that have
     /// joined `order` and not left: nobody is left out. `count` is at most 8.
     ///
     /// A detector picks by it whom a gossip goes to.
@@ -66,7 +66,7 @@ impl Helpers {
         requires { count ≤ MAX_HELPERS }
         ensures { self.new ≡ picked count words.now order.now.names }
     {
-        order.pick_any(&words[..count], &mut self.names, &mut self.places);
+        order.pick_any(&words[..count], &mut self.names, &mut self.indexes);
     }
 
     /// Their names, in the order in which they were picked.
@@ -77,12 +77,12 @@ impl Helpers {
         self.names.as_slice()
     }
 
-    /// How many names come before the one at an index, of those that the order knew when it was picked. That is where
-    /// its record is among those of the others, if no member is gone that isn't forgotten. It serves to look there
-    /// first, so no clause says it.
-    pub fn place(&self, index: usize) -> usize
+    /// The index at which the record of the helper at an index probably is, among the records of the others: how many
+    /// names that the order knew, when it was picked, come before it. It is there if since then nobody became known or
+    /// was forgotten, and nobody is gone that isn't forgotten. It serves to look there first, so no clause says it.
+    pub fn likely_index(&self, index: usize) -> usize
         requires { index < MAX_HELPERS }
     {
-        usize::from(self.places[index])
+        usize::from(self.indexes[index])
     }
 }

@@ -192,33 +192,33 @@ impl Order {
     }
 
     /// Picks one of the names by each word, as long as any is left. The target is never picked. The picked names
-    /// replace what `picked` held. At the index of each, `places` gets its index in the row of names that are known.
+    /// replace what `picked` held. At the index of each, `indexes` gets its index in the row of names that are known.
     pub(crate) fn pick(
         &self,
         target: &Name,
         words: &[u32],
         picked: &mut ArrayVec<Name, RANDOM_WORDS>,
-        places: &mut [u8; RANDOM_WORDS],
+        indexes: &mut [u8; RANDOM_WORDS],
     )
         requires { length words.now ≤ RANDOM_WORDS }
         ensures { picked.new.items ≡ picked_by words.now (without target.now self.now.names) }
     {
         let left = others_than(self.known.as_slice(), &self.joined, target);
-        pick_all(self.known.as_slice(), left, words, picked, places);
+        pick_all(self.known.as_slice(), left, words, picked, indexes);
     }
 
     /// Picks one of the names by each word, as long as any is left, as `pick` does, but leaves nobody out. The picked
-    /// names replace what `picked` held.
+    /// names replace what `picked` held, and `indexes` is filled as by `pick`.
     pub(crate) fn pick_any(
         &self,
         words: &[u32],
         picked: &mut ArrayVec<Name, RANDOM_WORDS>,
-        places: &mut [u8; RANDOM_WORDS],
+        indexes: &mut [u8; RANDOM_WORDS],
     )
         requires { length words.now ≤ RANDOM_WORDS }
         ensures { picked.new.items ≡ picked_by words.now self.now.names }
     {
-        pick_all(self.known.as_slice(), self.joined, words, picked, places);
+        pick_all(self.known.as_slice(), self.joined, words, picked, indexes);
     }
 }
 

@@ -44,8 +44,8 @@ pub(crate) fn others_than(row: &[Name], numbers: &BitSet, name: &Name) -> BitSet
 }
 
 /// Picks one of the names left by a random word, if any is left, and takes its number out. Writes the number to
-/// `place`.
-fn pick_one(row: &[Name], left: &mut BitSet, word: u32, place: &mut u8) -> Option<Name>
+/// `index`.
+fn pick_one(row: &[Name], left: &mut BitSet, word: u32, index: &mut u8) -> Option<Name>
     requires { AreOfRow left.old row.now }
     ensures picked { result ≡ candidate word (entries_in left.old row.now) }
     ensures left { entries_in left.new row.now ≡ left_by word (entries_in left.old row.now) }
@@ -53,7 +53,7 @@ fn pick_one(row: &[Name], left: &mut BitSet, word: u32, place: &mut u8) -> Optio
 {
     let number = number_by(left, word)?;
     left.remove(number);
-    *place = number;
+    *index = number;
     Some(row[usize::from(number)])
 }
 
@@ -68,13 +68,13 @@ fn push_picked(names: &mut ArrayVec<Name, RANDOM_WORDS>, name: Option<Name>)
 }
 
 /// Picks one of the names left by each word, as long as any is left. They replace what `picked` held. At the index of
-/// each, `places` gets its number.
+/// each, `indexes` gets its number.
 pub(crate) fn pick_all(
     row: &[Name],
     mut left: BitSet,
     words: &[u32],
     picked: &mut ArrayVec<Name, RANDOM_WORDS>,
-    places: &mut [u8; RANDOM_WORDS],
+    indexes: &mut [u8; RANDOM_WORDS],
 )
     requires numbers { AreOfRow left row.now }
     requires words { length words.now ≤ RANDOM_WORDS }
@@ -83,8 +83,8 @@ pub(crate) fn pick_all(
     picked.clear();
     for word in words {
         let count = picked.len();
-        let mut place = 0;
-        push_picked(picked, pick_one(row, &mut left, *word, &mut place));
-        places[count] = place;
+        let mut index = 0;
+        push_picked(picked, pick_one(row, &mut left, *word, &mut index));
+        indexes[count] = index;
     }
 }

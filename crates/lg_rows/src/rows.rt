@@ -17,8 +17,9 @@ pub const MAX_ROWS: usize = 65_536;
 /// A row of at most `N` items, in an order that its caller keeps. `N` is at most [`MAX_ROWS`].
 ///
 /// An item stays in its place in memory for as long as it is in the row. To insert or to remove one moves two bytes for
-/// each item behind it. An item that was taken out is dropped once another comes to its place. A contract sees the list
-/// of the items, in the order of the row. No call allocates memory.
+/// each item behind it. An item that was taken out is dropped once another comes to its place, or with the row. A
+/// contract sees the list of the items, in the order of the row. `Debug` prints the places in that order, and beside
+/// them what each place has, also items that were taken out and aren't dropped yet. No call allocates memory.
 #[derive(Debug, Drop)]
 pub struct Rows<T, const N: usize> {
     // How many places are in use.

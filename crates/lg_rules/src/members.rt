@@ -8,7 +8,7 @@ ghost use Rattle.std.specs.Prelude.{option_copied, None, Some, true, false};
 ghost use Rattle.lg_rules.specs.declared.claim.Claim.{Claim as Said};
 ghost use Rattle.lg_rules.specs.Meaning.Claim.{name_of};
 ghost use Rattle.lg_rules.specs.Meaning.Own.{OwnFact, Told, Forgets, TakesLeave};
-ghost use Rattle.lg_rules.specs.Meaning.Rows.{name_cmp, is_among, row_at};
+ghost use Rattle.lg_rules.specs.Meaning.Rows.{name_cmp, Rises, is_among, row_at};
 ghost use Rattle.lg_rules.specs.Meaning.Table.{members_forgot, hearing_of, known_of, live_in, members_heard};
 ghost use Rattle.lg_rules.specs.Meaning.Table.{table_needs_room, slot_given_back, slot_in};
 ghost use Rattle.lg_rules.specs.Meaning.Table.{names_by_slot, record_of, roster};
@@ -147,6 +147,8 @@ impl Members {
     pub fn count(&self) -> usize
         ensures count { result ≡ length self.now.table }
         ensures few { result ≤ MAX_OTHERS }
+        // They are in the order of names, each name once.
+        ensures rises { Rises name_cmp (map name_of self.now.table) }
     {
         self.records.len()
     }

@@ -70,7 +70,8 @@ pub fn put_row<T: Keyed + Drop, const N: usize>(rows: &mut ArrayVec<T, N>, row: 
     }
 }
 
-/// As [`index_of`], among rows that stay in their places. Found by halving.
+/// The index of the row with a name, as [`index_of`] gives it, among rows that stay in their places. It is found by
+/// halving.
 pub fn index_in_rows<T: Keyed, const N: usize>(
     rows: &Rows<T, N>,
     name: &Name,

@@ -4,7 +4,7 @@
 mod by_id;
 mod comparing;
 mod heap;
-mod many;
+mod indexed_heap;
 mod singles;
 mod steps;
 mod timer;

@@ -8,7 +8,7 @@ ghost use Rattle.lg_timers.specs.Meaning.Timers.{least_of, due_of, first_forget,
 ghost use Rattle.lg_timers.specs.Support.InTurn.{IsTimerSet};
 
 use crate::comparing::{Comparer, Uncounted};
-use crate::many::Many;
+use crate::indexed_heap::IndexedHeap;
 use crate::singles::{Single, Singles, first_of_both};
 use crate::steps::{MAX_STEPS, Steps};
 use crate::timer::{Timer, TimerId};
@@ -34,7 +34,7 @@ pub struct Timers {
     // The first of these. Each event asks for it, and few change it.
     first_single: Option<Single>,
     // The others, as a heap.
-    many: Many,
+    heap: IndexedHeap,
 }
 
 impl Model for Timers {
@@ -44,9 +44,9 @@ impl Model for Timers {
 
     ghost Value = { List OneTimer };
 
-    ghost view = { λ t. with_singles t.singles t.many };
+    ghost view = { λ t. with_singles t.singles t.heap };
 
-    ghost invariant = { λ t. AreTimers t.singles t.first_single t.many };
+    ghost invariant = { λ t. AreTimers t.singles t.first_single t.heap };
 }
 
 impl Default for Timers {
@@ -67,7 +67,7 @@ impl Timers {
         Timers {
             singles: Singles::new(),
             first_single: None,
-            many: Many::new(),
+            heap: IndexedHeap::new(),
         }
     }
 
@@ -78,7 +78,7 @@ impl Timers {
         Timers {
             singles: self.singles,
             first_single: self.first_single,
-            many: self.many.copy(),
+            heap: self.heap.copy(),
         }
     }
 
@@ -91,8 +91,8 @@ impl Timers {
         self.set_with(timer, &mut Uncounted);
     }
 
-    /// Adds a timer, as `set` does. Its comparisons raise the count by at most [`MAX_STEPS`], for which there has to
-    /// be room.
+    /// Adds a timer, as `set` does. Its comparisons of timers of the heap raise the count by at most [`MAX_STEPS`], for
+    /// which there has to be room.
     pub fn set_counted(&mut self, timer: Timer, steps: &mut Steps)
         requires room { length self.old < MAX_TIMERS }
         requires apart { is_set timer.id self.old ≡ false }
@@ -136,7 +136,7 @@ impl Timers {
         if self.singles.reset(&timer) {
             self.first_single = self.singles.first();
         } else {
-            self.many.reset_with(timer, comparer);
+            self.heap.reset_with(timer, comparer);
         }
     }
 
@@ -148,8 +148,8 @@ impl Timers {
         self.cancel_with(id, &mut Uncounted)
     }
 
-    /// Cancels the timer with this id, as `cancel` does. Its comparisons raise the count by at most [`MAX_STEPS`],
-    /// for which there has to be room.
+    /// Cancels the timer with this id, as `cancel` does. Its comparisons of timers of the heap raise the count by at
+    /// most [`MAX_STEPS`], for which there has to be room.
     pub fn cancel_counted(&mut self, id: &TimerId, steps: &mut Steps) -> bool
         requires { steps.old + MAX_STEPS < 2 ^ 64 }
         ensures was_set { result ≡ is_set id.now self.old }
@@ -174,7 +174,7 @@ impl Timers {
                 self.first_single = self.singles.first();
                 was_set
             }
-            None => self.many.cancel_with(id, comparer),
+            None => self.heap.cancel_with(id, comparer),
         }
     }
 
@@ -184,7 +184,7 @@ impl Timers {
     {
         self.singles = Singles::new();
         self.first_single = None;
-        self.many.clear();
+        self.heap.clear();
     }
 
     /// The timer that fires first, if any is set.
@@ -193,7 +193,7 @@ impl Timers {
         ensures least { result ≡ least_of self.now }
         ensures set { IsTimerSet self.now }
     {
-        first_of_both(self.first_single, self.many.first())
+        first_of_both(self.first_single, self.heap.first())
     }
 
     /// The first of the timers that are due, or `None` if none is due. A timer is due if its deadline isn't after
@@ -213,7 +213,7 @@ impl Timers {
     pub fn first_forget(&self) -> Option<Timer>
         ensures { result ≡ first_forget self.now }
     {
-        self.many.first_forget()
+        self.heap.first_forget()
     }
 
     /// Takes out the first of the timers that are due, and no other. A timer is due if its deadline isn't after
@@ -225,8 +225,8 @@ impl Timers {
         self.take_due_with(now, &mut Uncounted)
     }
 
-    /// Takes out the first of the timers that are due, as `take_due` does. Its comparisons raise the count by at most
-    /// [`MAX_STEPS`], for which there has to be room.
+    /// Takes out the first of the timers that are due, as `take_due` does. Its comparisons of timers of the heap raise
+    /// the count by at most [`MAX_STEPS`], for which there has to be room.
     pub fn take_due_counted(&mut self, now: Moment, steps: &mut Steps) -> Option<Timer>
         requires { steps.old + MAX_STEPS < 2 ^ 64 }
         ensures due { result ≡ due_of now self.old }

@@ -140,7 +140,7 @@ impl Detector {
         }
     }
 
-    /// Ends an event by which this timer fired, if one did. The gossip's own timer is still set if it was that.
+    /// Ends an event by which this timer fired, if one did. If it was the gossip's own, it is still set.
     pub(super) fn end_event(&mut self, fired: &Option<Timer>)
         ensures { self.new ≡ ended_state fired.now self.old }
     {

@@ -171,7 +171,7 @@ impl Detector {
         make_slots(slots, names.len());
         let mut count = 0;
         for index in 0..names.len() {
-            if let Some(to) = self.addr_near(&names[index], told.place(index)) {
+            if let Some(to) = self.addr_near(&names[index], told.likely_index(index)) {
                 notice.put(to, &mut slots[count]);
                 count += 1;
             }

@@ -390,7 +390,7 @@ impl Detector {
         make_slots(slots, names.len());
         let mut count = 0;
         for index in 0..names.len() {
-            if let Some(to) = self.addr_near(&names[index], helpers.place(index)) {
+            if let Some(to) = self.addr_near(&names[index], helpers.likely_index(index)) {
                 self.put_packet(&request(number, target, to), &mut slots[count]);
                 count += 1;
             }

@@ -17,11 +17,11 @@ AreInOrder rows = Rises name_cmp (map queued_name rows)
 abbrev pub AreWithin : List Queued → Type 0
 AreWithin rows = AllByRecursion (λ q. q.sends ≤ most_times_sent) rows
 
--- each of these was sent so often, or more often
+-- each of these was sent at least `fewest` times
 abbrev pub AreSent : ℕ → List Queued → Type 0
 AreSent fewest rows = AllByRecursion (λ q. fewest ≤ q.sends) rows
 
--- each of these that is in a set was sent fewer times than so
+-- each of these that is in a set was sent fewer than `used` times
 abbrev pub AreBelow : ℕ → List Queued → Type 0
 AreBelow used rows = AllByRecursion (λ q. q.sends < SETS → q.sends < used) rows
 

@@ -102,7 +102,7 @@ impl Membership {
     }
 
     /// The record of the member with this name, which may be this member itself, or `None` if it isn't known.
-    // So that a record that is returned isn't copied by one call after another.
+    // Without this each call on the way would copy the record.
     #[inline(always)]
     pub fn record_of(&self, name: &Name) -> Option<Record>
         ensures state { result ≡ row_at name_cmp name_of name.now (shown self.now) }

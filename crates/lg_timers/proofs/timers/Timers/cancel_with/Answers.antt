@@ -24,7 +24,7 @@ pub returns-in-Some-clause-others : goal.returns-in-Some-clause-others
 returns-in-Some-clause-others g c =
     let s = c.self.inside.singles in
     let was : has_deadline c.args.id.now s ≡ Some c.in-Some.was_set = sym c.cancel.ensures.was_set ∙ c.in-Some.is in
-    ap (λ x. with_singles x c.self.inside.many) c.cancel.ensures.others
+    ap (λ x. with_singles x c.self.inside.heap) c.cancel.ensures.others
     ∙ singles-cancel s c.self.invariant.many c.args.id.now c.in-Some.was_set was
     ∙ ap (without_timer c.args.id.now) c.self.view_is
 

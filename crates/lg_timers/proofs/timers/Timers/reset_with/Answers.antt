@@ -35,6 +35,6 @@ returns-then-reset-clause-set g c =
     let s = c.self.inside.singles in
     let t = c.args.timer in
     let single : is_single t.id ≡ true = sym c.reset.ensures.single ∙ c.if-reset.true in
-    ap (λ x. with_singles x c.self.inside.many) c.reset.ensures.set
+    ap (λ x. with_singles x c.self.inside.heap) c.reset.ensures.set
     ∙ singles-reset s c.self.invariant.many t single
     ∙ ap (λ ts. with_timer t (without_timer t.id ts)) c.self.view_is

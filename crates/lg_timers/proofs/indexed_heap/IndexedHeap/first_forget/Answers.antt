@@ -5,7 +5,7 @@ use Rattle.lg_timers.specs.Support.InTurn.{earlier_forget}
 use Rattle.lg_timers.proofs.Forgetting.{first-next}
 use Rattle.lg_timers.proofs.RowLaws.{row-within}
 use Rattle.lg_timers.proofs.SlotLaws.{timer_read}
-use Rattle.lg_timers.proofs.many.Many.first_forget.Goals as goal
+use Rattle.lg_timers.proofs.indexed_heap.IndexedHeap.first_forget.Goals as goal
 
 pub loop-slot-init : goal.loop-slot-init
 unfolding in_turn

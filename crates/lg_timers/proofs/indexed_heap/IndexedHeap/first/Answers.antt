@@ -5,7 +5,7 @@ use Rattle.lg_timers.specs.Support.Slots.{timer_in}
 use Rattle.lg_timers.proofs.HeapLaws.{same_or, above_zero}
 use Rattle.lg_timers.proofs.RowLaws.{rows-least, rows-least_none}
 use Rattle.lg_timers.proofs.SlotLaws.{timer_read}
-use Rattle.lg_timers.proofs.many.Many.first.Goals as goal
+use Rattle.lg_timers.proofs.indexed_heap.IndexedHeap.first.Goals as goal
 
 -- where there is no first slot, none is in use
 none_used : (count slot : ℕ) (first : Option ℕ) → first ≡ None → (0 < count → first ≡ Some slot) → count ≡ 0

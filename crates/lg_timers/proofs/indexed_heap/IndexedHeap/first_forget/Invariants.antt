@@ -1,7 +1,7 @@
 use Rattle.std.proofs.Common.{◌≡◌, take}
 use Rattle.lg_timers.specs.Meaning.Timers.{first_forget, in_turn}
 use Rattle.lg_timers.specs.Support.Slots.{timers_in}
-use Rattle.lg_timers.proofs.many.Many.first_forget.Given as goal
+use Rattle.lg_timers.proofs.indexed_heap.IndexedHeap.first_forget.Given as goal
 
 -- the first of those in the slots so far
 abbrev pub invariant-loop-slot : goal.invariant-loop-slot

@@ -9,7 +9,7 @@ use Rattle.lg_timers.specs.Support.Slots.{timers_in, timer_at, AreBothRows}
 use Rattle.lg_timers.proofs.ReplaceLaws.{replaced-used, replaced-around, rows-replaced, in_turn-replaced}
 use Rattle.lg_timers.proofs.RowLaws.{rows-within, rows-set, rows-room, rows-long, row-within, free-heap, free-view, rows-added}
 use Rattle.lg_timers.proofs.SlotLaws.{has_along, lacks_along, lacks-row}
-use Rattle.lg_timers.proofs.many.Many.reset_with.Goals as goal
+use Rattle.lg_timers.proofs.indexed_heap.IndexedHeap.reset_with.Goals as goal
 
 pub index_of-requires-clause-within : goal.index_of-requires-clause-within
 index_of-requires-clause-within g c =

@@ -23,7 +23,7 @@ use std::marker::Model;
 /// a search. To set or to cancel one takes at most [`MAX_STEPS`] comparisons of timers, and a search by halving for its
 /// id.
 #[derive(Debug, Drop)]
-pub(crate) struct Many {
+pub(crate) struct IndexedHeap {
     // Each timer stays in its slot. What is in a slot that isn't in use doesn't count.
     timers: [Timer; MAX_TIMERS],
     // The slots in use, as a heap.
@@ -32,7 +32,7 @@ pub(crate) struct Many {
     by_id: ArrayVec<u16, MAX_TIMERS>,
 }
 
-impl Model for Many {
+impl Model for IndexedHeap {
     ghost use Rattle.std.specs.Prelude.{List};
     ghost use Rattle.lg_timers.specs.declared.timer.Timer.{Timer as OneTimer};
     ghost use Rattle.lg_timers.specs.Meaning.Timers.{in_turn};
@@ -58,13 +58,13 @@ fn earlier_forget(first: Option<Timer>, timer: &Timer) -> Option<Timer>
     }
 }
 
-impl Many {
+impl IndexedHeap {
     /// No timer is set.
     #[tactic(auto, unfolding(crate::specs::Meaning::Timers::in_turn))]
-    pub(crate) fn new() -> Many
+    pub(crate) fn new() -> IndexedHeap
         ensures { result ≡ [] }
     {
-        Many {
+        IndexedHeap {
             timers: [Timer::default(); MAX_TIMERS],
             heap: Heap::new(),
             by_id: ArrayVec::new(),
@@ -72,14 +72,14 @@ impl Many {
     }
 
     /// The same timers.
-    pub(crate) fn copy(&self) -> Many
+    pub(crate) fn copy(&self) -> IndexedHeap
         ensures { result ≡ self.now }
     {
         let mut timers = [Timer::default(); MAX_TIMERS];
         timers.copy_from_slice(&self.timers);
         let mut by_id = ArrayVec::new();
         by_id.try_extend_from_slice(&self.by_id).unwrap();
-        Many {
+        IndexedHeap {
             timers,
             heap: self.heap.copy(),
             by_id,

@@ -6,7 +6,7 @@ use Rattle.lg_timers.specs.Support.Slots.{timer_in, timers_in, AreBothRows}
 use Rattle.lg_timers.proofs.RowLaws.{rows-within, rows-apart, rows-set, row-used, row-within, rows-removed}
 use Rattle.lg_timers.proofs.SetLaws.{others_left}
 use Rattle.lg_timers.proofs.SlotLaws.{has_along, lacks_along, has_set, slot_before}
-use Rattle.lg_timers.proofs.many.Many.cancel_with.Goals as goal
+use Rattle.lg_timers.proofs.indexed_heap.IndexedHeap.cancel_with.Goals as goal
 
 pub index_of-requires-clause-within : goal.index_of-requires-clause-within
 index_of-requires-clause-within g c =
