@@ -122,22 +122,27 @@ class Group(Nodes[Told]):
         wanted = set(self.names)
         return self.wait_until(self.begun, lambda it: {n for n, s in it.members.items() if s == "alive"} >= wanted)
 
-    def busiest(self, during: Callable[[], float]) -> tuple[float, float, float]:
-        """What a wait gives, with the packets and bytes that a node sent a second meanwhile."""
+    def spent(self) -> dict[str, float]:
+        """The processor time of each node so far."""
+        return {name: node.seconds() for name, node in self.nodes.items()}
+
+    def meanwhile(self, during: Callable[[], float]) -> tuple[float, float, float, float]:
+        """What a wait gives, with the packets and bytes that a node sent a second meanwhile, and its processor time, in
+        thousandths."""
         packets, octets = sent()
+        before = self.spent()
         begun = time.monotonic()
         found = during()
-        took = max(time.monotonic() - begun, 0.001) * len(self.names)
+        took = max(time.monotonic() - begun, 0.001)
         now = sent()
-        return found, (now[0] - packets) / took, (now[1] - octets) / took
+        spent = sum(seconds - before[name] for name, seconds in self.spent().items())
+        all_took = took * len(self.names)
+        return found, (now[0] - packets) / all_took, (now[1] - octets) / all_took, spent / took / len(self.nodes) * 1000
 
-    def at_rest(self) -> tuple[float, float, float]:
-        """The packets and bytes that a node sends a second if nothing happens, and its processor time, in
-        thousandths."""
-        spent = sum(node.seconds() for node in self.nodes.values())
-        _, packets, octets = self.busiest(lambda: self.read(REST) or 0.0)
-        spent = sum(node.seconds() for node in self.nodes.values()) - spent
-        return packets, octets, spent / REST / len(self.nodes) * 1000
+    def at_rest(self) -> float:
+        """Waits while nothing happens."""
+        self.read(REST)
+        return REST
 
     def death_known(self) -> float:
         """Kills the last member. How long it takes until each other takes it as failed."""
@@ -158,12 +163,14 @@ class Figures:
     whole: float
     start_packets: float
     start_bytes: float
+    start_thousandths: float
     rest_packets: float
     rest_bytes: float
-    thousandths: float
+    rest_thousandths: float
     failed: float
     death_packets: float
     death_bytes: float
+    death_thousandths: float
     wrong: int
 
 
@@ -179,10 +186,10 @@ def running(start: Callable[[str, int, int | None], list[str]], size: int) -> It
 def measured(start: Callable[[str, int, int | None], list[str]], size: int, is_quick: bool) -> Figures:
     """Starts a group, lets it rest, and kills one member."""
     with running(start, size) as group:
-        whole, *starting = group.busiest(group.all_know_all)
+        whole, *starting = group.meanwhile(group.all_know_all)
         group.read(5.0 if is_quick else CALM)
-        resting = group.at_rest()
-        failed, *dying = group.busiest(group.death_known)
+        _, *resting = group.meanwhile(group.at_rest)
+        failed, *dying = group.meanwhile(group.death_known)
         return Figures(whole, *starting, *resting, failed, *dying, group.wrongly_failed())
 
 
@@ -196,12 +203,14 @@ ROWS: list[tuple[str, Callable[[Figures], str]]] = [
     ("all know all, seconds", lambda it: f"{it.whole:.2f}"),
     ("  packets a second of a node meanwhile", lambda it: f"{it.start_packets:.1f}"),
     ("  kilobytes", lambda it: f"{it.start_bytes / 1000:.1f}"),
+    ("  thousandths of a processor", lambda it: f"{it.start_thousandths:.1f}"),
     ("at rest, packets a second of a node", lambda it: f"{it.rest_packets:.1f}"),
     ("  kilobytes", lambda it: f"{it.rest_bytes / 1000:.2f}"),
-    ("  thousandths of a processor", lambda it: f"{it.thousandths:.2f}"),
+    ("  thousandths of a processor", lambda it: f"{it.rest_thousandths:.2f}"),
     ("a killed one is failed at all, seconds", lambda it: f"{it.failed:.1f}"),
     ("  packets a second of a node meanwhile", lambda it: f"{it.death_packets:.1f}"),
     ("  kilobytes", lambda it: f"{it.death_bytes / 1000:.2f}"),
+    ("  thousandths of a processor", lambda it: f"{it.death_thousandths:.2f}"),
     ("  others that somebody takes as failed", lambda it: f"{it.wrong:.0f}"),
 ]
 

@@ -1,4 +1,5 @@
-//! The commands of the program except `node`, over any reader and writers: what they write, and their statuses.
+//! The commands `answer`, `order`, `timeouts` and `sim`, over any reader and writers: what they write, and their
+//! statuses. None of them uses a clock, a socket or a file.
 //!
 //! Where to read on:
 //! - what `answer`, `order` and `timeouts` write: `specs/Meaning/Answering.antt`, `Choosing.antt` and `Timeouts.antt`;

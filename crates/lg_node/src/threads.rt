@@ -1,22 +1,25 @@
 //! All threads of a node: both loops, and beside them a watcher and a status server if they are wanted.
 //!
 //! ```text
-//! thread           begins                     ends                                     joined by
-//! ticking loop     it is the caller's own     at its time, the stop flag or a fault
-//! watcher          first, if it follows       when the loops have ended, or at its     ticking loop
-//!                                             writer's fault
-//! status server    then, if there is one      when the loops have ended, or it failed  ticking loop
-//! receiving loop   behind these               at the ticking loop's end or a fault     ticking loop
+//! thread           started by     begins                    ends                                     joined by
+//! ticking loop     the caller     as the caller's own       at its time, the stop flag or a fault
+//! watcher          ticking loop   first, if it follows      when the loops have ended, or at its     ticking loop
+//!                                                           writer's fault
+//! status server    ticking loop   then, if there is one     when the loops have ended, or it failed  ticking loop
+//! receiving loop   ticking loop   behind these              at the ticking loop's end or a fault     ticking loop
+//! writer           the program    before, if it follows     when all is written, or at its fault     nobody
+//! reader           the program    before, if the end of     when the input has ended, or failed      nobody
+//!                                 the input ends the node
 //! ```
 //!
-//! All are of one scope: `tick_beside` (`beside.rt`) starts and joins them, whatever they do. What a thread does is
-//! told in one place: `Watching` (`following.rt`), `Serving` (`serving.rt`), `Receiving` (`receiving.rt`) and
-//! `tick_loop` (of `lg_loops`).
-//! The program has two more threads, which nobody joins. One writes what a followed node tells
-//! (`lg_cli/src/output.rt`), and one reads the input whose end is to end the node (`lg_cli/src/node.rt`). The receiving
-//! loop sets the stop flag when it ends, at which the ticking one ends, and this one sets the flag that it is over, at
-//! which the receiving one ends. So a member that leaves is still heard and answered while its ticking loop lingers.
-//! When both have ended, the watcher is woken, which sees that it is over, and the server is told to stop.
+//! The first four are of one scope: `tick_beside` (`beside.rt`) starts and joins them, whatever they do. What a thread
+//! does is told in one place: `Watching` (`following.rt`), `Serving` (`serving.rt`), `Receiving` (`receiving.rt`) and
+//! `tick_loop` (of `lg_loops`). The last two are the program's: the writer of what a followed node tells
+//! (`lg_cli/src/output.rt`), and the reader of the input whose end is to end the node (`lg_cli/src/node.rt`).
+//!
+//! The receiving loop sets the stop flag when it ends, at which the ticking one ends, and this one sets the flag that it
+//! is over, at which the receiving one ends. So a member that leaves is still heard and answered while its ticking loop
+//! lingers. When both have ended, the watcher is woken, which sees that it is over, and the server is told to stop.
 //!
 //! Defined in: `specs/Meaning/Nodes.antt`, `lg_loops/specs/Meaning/Turns.antt`, `lg_loops/specs/Meaning/Pulling.antt`,
 //! `lg_loops/specs/Meaning/BothLoops.antt`.
@@ -110,8 +113,8 @@ where
 
 /// Runs both loops as [`join_threads`] says, with this work of the watcher and of the status server.
 ///
-/// The caller of [`join_threads`] makes the watcher's work, [`join_threads`] makes the server's, and this function makes
-/// the receiving loop's. The checker can't prove a function that makes two of them.
+/// The caller of [`join_threads`] makes the watcher's work, [`join_threads`] makes the server's, and this function
+/// makes the receiving loop's. The checker can't prove a function that makes two of them.
 fn loops_with<A, R, L, C, V, T, X, U>(
     shared: &Shared<'_, R, C>,
     sides: Sides<'_, '_, L, A>,

@@ -42,7 +42,7 @@ impl Helpers {
         }
     }
 
-    /// Reindexes the helpers by at most `k` new ones. They are picked from the names that have joined `others` and not
+    /// Replaces the helpers by at most `k` new ones. They are picked from the names that have joined `others` and not
     /// left. The target isn't picked. `k` is at most 8.
     ///
     /// They are picked one after another, until `k` are picked or no name remains. Each word picks the name whose
@@ -58,7 +58,7 @@ impl Helpers {
         others.pick(target, &words[..k], &mut self.names, &mut self.indexes);
     }
 
-    /// Reindexes the helpers by at most `count` new ones. They are picked as `pick` does, from all the names that have
+    /// Replaces the helpers by at most `count` new ones. They are picked as `pick` does, from all the names that have
     /// joined `order` and not left: nobody is left out. `count` is at most 8.
     ///
     /// A detector picks by it whom a gossip goes to.

@@ -210,7 +210,7 @@ impl Detector {
             if !self.parts.membership.has_news() {
                 break;
             }
-            if let Some(to) = self.addr_near(&names[index], told.place(index)) {
+            if let Some(to) = self.addr_near(&names[index], told.likely_index(index)) {
                 let body = Body::Gossip;
                 self.put_packet(&Message { to, body }, &mut slots[count]);
                 count += 1;
