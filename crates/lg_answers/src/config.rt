@@ -1,6 +1,6 @@
-//! Writes the configuration as JSON.
+//! Writes the body of `/v1/config`: the configuration as JSON, without the path of its key file.
 //!
-//! Defined in: `specs/Meaning/Bodies.antt`, `lg_timing/specs/Meaning/Keys.antt`;
+//! Defined in: `specs/Meaning/Bodies.antt`, `lg_timing/specs/Meaning/Keys.antt`,
 //! `lg_text/specs/Meaning/Addresses.antt`.
 //! Tested in: `lg_answers_tests/src/answer.rt`.
 ghost use Rattle.std.specs.Prelude.{◌≡◌, ◌++◌, IfOk, OnOk, codes, string_bytes};
@@ -20,7 +20,7 @@ use lg_text::put_addr;
 use lg_timing::{Config, KEYS, Key, Seed};
 use std::alloc::{AllocError, Global};
 
-/// Appends the brace of an object and the name.
+/// Appends the brace of an object and the name. No byte of a name needs an escape.
 fn put_name(name: &Name, text: &mut String) -> Result<(), AllocError>
     ensures { OnOk result (string_bytes text.new
         ≡ string_bytes text.old ++ (codes "{\"name\":\"" ++ (name.now ++ codes "\","))) }
@@ -38,14 +38,14 @@ fn put_front(config: &Config, text: &mut String) -> Result<(), AllocError>
     put_address("\"address\":\"", &config.addr, text)
 }
 
-/// Appends a number with its key.
+/// Appends a comma, a key and its number.
 fn put_number(key: &str, value: u64, text: &mut String) -> Result<(), AllocError>
     ensures { OnOk result (string_bytes text.new ≡ string_bytes text.old ++ number_field key.now value) }
 {
     write!(text, ",\"{key}\":{value}")
 }
 
-/// Appends some of the member's numbers.
+/// Appends the member's numbers of these keys.
 fn put_keys(config: &Config, keys: &[Key], text: &mut String) -> Result<(), AllocError>
     ensures { OnOk result (string_bytes text.new ≡ string_bytes text.old ++ flat_map (key_field config.now) keys.now) }
 {
@@ -55,7 +55,7 @@ fn put_keys(config: &Config, keys: &[Key], text: &mut String) -> Result<(), Allo
     Ok(())
 }
 
-/// Appends the numbers of the node's own.
+/// Appends the node's own numbers.
 fn put_owns(numbers: &[NodeNumber], text: &mut String) -> Result<(), AllocError>
     ensures { OnOk result (string_bytes text.new ≡ string_bytes text.old ++ flat_map own_field numbers.now) }
 {

@@ -1,5 +1,5 @@
-//! What a node answers when it is asked over HTTP: which route a path and a query are, and the body of each answer. No
-//! input, no output and no threads: plain values are handed in, and an answer is handed out.
+//! What a node answers when it is asked over HTTP: which route a path and a query have, and the body of each answer. It
+//! reads and writes nothing, and starts no thread: its calls make an answer of plain values.
 //!
 //! [`answer_to`] makes the answer to a request, from a [`Snapshot`], the [`Changes`] that are kept, and the
 //! [`ShownConfig`]. [`route_of`] says which route a request has, and [`wait_of`] what it waits for. `specs/Meaning`

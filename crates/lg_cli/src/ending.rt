@@ -9,12 +9,13 @@ ghost use Rattle.lg_cli.specs.Meaning.Ending.{cut_text, end_status};
 use lg_commands::FAILED;
 use lg_text::{FaultStream, report};
 
-/// Ends the program, given the status of its command and whether its output is cut off: it took nothing for 2 s after a
-/// node that follows was to end, so that lines are lost.
+/// The exit status of the program, given that of its command and whether its output is cut off. It is if a node that
+/// follows was to end, and the output took nothing for [`GRACE_MS`](lg_pump::GRACE_MS) from then on, which the line
+/// rounds to 2 s. So lines are lost.
 ///
 /// If so, that is reported in two lines, and a status of 0 becomes [`FAILED`]. A line that `faults` doesn't take is
 /// dropped.
-pub fn end_program<F: FaultStream>(status: u8, is_cut: bool, faults: &mut F) -> u8
+pub fn exit_status<F: FaultStream>(status: u8, is_cut: bool, faults: &mut F) -> u8
     ensures told { is_cut ≡ true → Reports (F.reported faults.old) (F.reported faults.new) cut_text }
     ensures silent { is_cut ≡ false → faults.new ≡ faults.old }
     ensures status { result ≡ end_status status is_cut }

@@ -29,8 +29,8 @@ fn main(rt: HostRuntime) -> ExitCode {
         ),
         Err(error) => program::refuse_words(&error, &mut rt.stderr()),
     };
-    let told = ending::end_program(status, output.is_cut(), &mut rt.stderr());
-    ExitCode::from(told)
+    let status = ending::exit_status(status, output.is_cut(), &mut rt.stderr());
+    ExitCode::from(status)
 }
 
 /// The words of the command line. The first word is the program's name.

@@ -1,8 +1,8 @@
-//! What the command `node` needs before it is run: the bytes of its file, and its threads. One reads an input until it
-//! ends, and one writes for a node that follows. If they can't be had, that is told.
+//! What the command `node` needs before it is run: the bytes of its file, its stop flag, and its threads. One reads an
+//! input until it ends, and one writes for a node that follows. If they can't be had, that is told.
 //!
 //! Defined in: `lg_run/specs/Meaning/Reporting.antt`.
-//! Tested in: `cases/node.case`, `cases/node_command.case`.
+//! Tested in: `cases/node.case`, `cases/node_command.case`, `cases/groups`.
 ghost use Rattle.std.specs.Prelude.{◌≡◌, IfErr, OnOk};
 ghost use Rattle.lg_run.specs.Meaning.Reporting.{TellsLine, TellsNoBytes};
 ghost use Rattle.lg_run.specs.declared.file.NoBytes.{NoBytes};
@@ -21,16 +21,16 @@ use std::{io, thread};
 /// Standard input and output as the threads of a node own them.
 #[derive(Drop)]
 pub struct Owned<I, O> {
-    /// The input.
+    /// What the thread of `--until-input-ends` reads.
     pub input: I,
-    /// The output.
+    /// What the thread of `--follow` writes to.
     pub output: O,
 }
 
-/// What the words of the command `node` ask for, but for its end in time.
+/// What the words of the command `node` ask for, except when it ends (`--for-ms`).
 #[derive(Clone, Copy, Debug)]
 pub struct NodeWords<'a> {
-    /// The path of its configuration. It may name no file.
+    /// The path of its configuration file. There may be no such file.
     pub file: &'a str,
     /// Whether it tells each change of a member as it happens.
     pub follow: bool,
@@ -48,10 +48,10 @@ pub struct Begun {
 }
 
 /// Gets what a node is run with: first the bytes of its file ([`file_bytes`]), then its stop flag and its threads
-/// ([`stop_flag`]).
+/// ([`stop_flag`]). If it follows, `writer` hands its texts to a thread from then on.
 ///
-/// If one of them can't be had, that is told, and the `Err` is the exit status: that of [`tell_no_bytes`], or of
-/// [`tell_unstarted`], which is the one for memory. Nothing is written in any case.
+/// If one of them can't be had, that is told, and the `Err` is the exit status: that of [`tell_no_bytes`], or that of
+/// [`Told::Memory`]. Nothing is written in any case.
 pub fn begin_node<M, I, O, W, F>(
     rt: &M,
     words: &NodeWords<'_>,
@@ -78,6 +78,7 @@ where
     let bytes = match file_bytes(rt, alloc, file) {
         Ok(bytes) => bytes,
         Err(none) => {
+            // Handed to `drop`, so that the checker doesn't take it apart here, as `bytes` below.
             drop(owned);
             return Err(tell_no_bytes(alloc, file, none, faults));
         }
@@ -89,12 +90,12 @@ where
     Ok(Begun { bytes, stop })
 }
 
-/// The flag that ends a node. If `until_input_ends` is set, the end of the input that is given sets it. A node that
-/// follows writes by a thread of its own, which owns the output that is given ([`start_pump`]) and sees the flag too.
+/// The flag that ends a node. With `until_input_ends` a thread reads the input, drops what it reads, and sets the flag
+/// once the input has ended or a read has failed. With `follow` a thread writes to the output. `writer` hands it its
+/// texts and sees the flag ([`start_pump`]).
 ///
-/// The input is read by a thread of its own, and what is read is dropped. A read that fails sets the flag too. The
-/// error is that memory or one of these threads was refused. No contract says that the end of the input ends the node,
-/// nor that a node ends whose output takes nothing: none can say what a thread does.
+/// The error is that memory or one of these threads was refused. No contract says that the end of the input ends the
+/// node, nor that a node ends whose output takes nothing: none can say what a thread does.
 fn stop_flag<M, I, O, W>(
     rt: &M,
     alloc: Global,
@@ -124,12 +125,11 @@ where
 ///
 /// The thread isn't joined. It is cut off when the program ends, so a program that ends for another reason doesn't
 /// wait for its input. The error is that a thread was refused; nothing is read then.
-fn flag_at_end<M, I>(rt: &M, input: I, flag: Arc<AtomicBool, Global>) -> Result<(), AllocError>
+fn flag_at_end<M, I>(rt: &M, mut input: I, flag: Arc<AtomicBool, Global>) -> Result<(), AllocError>
 where
     M: Threads,
     I: Read + Send + Drop + 'static,
 {
-    let mut input = input;
     thread::spawn(rt, move || {
         let _ = io::copy(&mut input, &mut io::sink());
         flag.store(true, Ordering::SeqCst);

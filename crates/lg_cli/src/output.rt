@@ -14,7 +14,8 @@ use std::{io, thread};
 /// An output that can be written by a thread of its own from some moment on.
 pub trait Pumped {
     /// From now on what the output is handed goes through this pump, and a reader that takes nothing holds the writer
-    /// for at most 2 s once this flag is set. An output that is pumped already stays as it is.
+    /// for at most [`GRACE_MS`](lg_pump::GRACE_MS) once this flag is set. An output that is pumped already stays as it
+    /// is.
     fn pump_by(&self, pump: Arc<Pump, Global>, stop: Arc<AtomicBool, Global>);
 }
 

@@ -34,15 +34,16 @@ pub(crate) struct Change {
 /// What a node says of changes.
 #[derive(Drop)]
 pub(crate) struct News {
-    /// How many events its members are after.
+    /// The version of the answer: after how many events the members of the node are what it says.
     pub(crate) version: u64,
-    /// The changes stand for others, which it no longer has.
+    /// Whether the node no longer has all changes that were asked for. Then `changes` has the whole table in their
+    /// place, a change for each member.
     pub(crate) missed: bool,
     /// The changes, the oldest first.
     pub(crate) changes: Vec<Change>,
 }
 
-/// What a change whose status has this word says of a member. Of one that was forgotten only the name is read.
+/// What a change with the status `word` says of a member. If that is `forgotten`, only the name is read.
 fn altered_by(word: &[u8], change: &Value) -> Option<Altered>
     ensures { result ≡ altered_by word.now (view change.now) }
 {
@@ -65,7 +66,7 @@ fn altered_in(change: &Value) -> Option<Altered>
     }
 }
 
-/// A change.
+/// Reads a change. None if a part of it isn't what docs/FORMATS.md says.
 #[tactic(auto, unfolding(crate::specs::Meaning::Changes::change_said))]
 fn change_in(change: &Value) -> Option<Change>
     ensures { result ≡ change_said (view change.now) }
@@ -124,8 +125,8 @@ fn rows_in(alloc: Global, values: &[Value]) -> Result<Vec<Change>, AskFault>
     Ok(rows)
 }
 
-/// What an answer says of changes. If a part of it isn't what is documented, that is [`AskFault::Bad`]. Memory is
-/// allocated for the changes.
+/// What an answer says of changes. The error is [`AskFault::Bad`] if a part of it isn't what docs/FORMATS.md says, and
+/// [`AskFault::Memory`] if memory for the changes was refused.
 #[tactic(auto, unfolding(crate::specs::Meaning::Changes::news_said))]
 pub(crate) fn news_in(alloc: Global, answer: &Value) -> Result<News, AskFault>
     ensures { IsReadAs news_shown (news_said (view answer.now)) result }

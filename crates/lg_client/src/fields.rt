@@ -1,5 +1,5 @@
-//! Looks up the values of a JSON object by their keys. Of a key that occurs twice the last value counts, as in the
-//! toolchain's reader.
+//! Looks up the values of a JSON object by their keys. If a key occurs twice, its last value counts: `serde_json` keeps
+//! that one.
 //!
 //! Defined in: `specs/Meaning/Fields.antt`.
 //! Tested in: `lg_client_tests/src/damaged.rt`, `lg_client_tests/src/edits.rt`.
@@ -16,51 +16,33 @@ use serde_json::Value;
 pub(crate) fn text_at<'a>(object: &'a Value, key: &str) -> Option<&'a str>
     ensures { option_map (λ text. text.now) result ≡ text_at_key key.now (view object.now) }
 {
-    match object.get(key) {
-        Some(value) => value.as_str(),
-        None => None,
-    }
+    object.get(key)?.as_str()
 }
 
 /// The name at a key. None if the key is missing or its value isn't a string that is a name.
 pub(crate) fn name_at(object: &Value, key: &str) -> Option<Name>
     ensures { result ≡ name_at_key key.now (view object.now) }
 {
-    match text_at(object, key) {
-        Some(text) => name_in(text.as_bytes()),
-        None => None,
-    }
+    name_in(text_at(object, key)?.as_bytes())
 }
 
 /// The integer at a key, if it is 0 to 2^64 - 1. None if the key is missing or its value is anything else.
 pub(crate) fn natural_at(object: &Value, key: &str) -> Option<u64>
     ensures { result ≡ natural_at_key key.now (view object.now) }
 {
-    match object.get(key) {
-        Some(value) => value.as_u64(),
-        None => None,
-    }
+    object.get(key)?.as_u64()
 }
 
 /// The truth value at a key. None if the key is missing or its value isn't one.
 pub(crate) fn truth_at(object: &Value, key: &str) -> Option<bool>
     ensures { result ≡ truth_at_key key.now (view object.now) }
 {
-    match object.get(key) {
-        Some(value) => value.as_bool(),
-        None => None,
-    }
+    object.get(key)?.as_bool()
 }
 
 /// The elements of the array at a key. None if the key is missing or its value isn't an array.
 pub(crate) fn rows_at<'a>(object: &'a Value, key: &str) -> Option<&'a [Value]>
     ensures { option_map (λ rows. items_view rows.now) result ≡ rows_at_key key.now (view object.now) }
 {
-    match object.get(key) {
-        Some(value) => match value.as_array() {
-            Some(rows) => Some(rows.as_slice()),
-            None => None,
-        },
-        None => None,
-    }
+    Some(object.get(key)?.as_array()?.as_slice())
 }

@@ -15,7 +15,7 @@ use lg_text::number_in;
 /// The most bytes of an answer, with its head: 1,048,576 (this project's choice).
 pub(crate) const MAX_ANSWER: usize = 1_048_576;
 
-/// The most fields of its head: 64 (this project's choice).
+/// The most fields of an answer's head: 64 (this project's choice).
 pub(crate) const MAX_FIELDS: usize = 64;
 
 /// What some bytes are.
@@ -40,7 +40,7 @@ pub(crate) enum Said {
     Unclear,
 }
 
-/// What fields say of which the first is this, and the others say that.
+/// What fields say of the length of the body. The first of them has this name and value, and the others say `others`.
 fn with_field(name: &[u8], value: &[u8], others: Said) -> Said
     ensures { result ≡ with_field name.now value.now others }
 {
@@ -70,7 +70,8 @@ fn said_by(bytes: &[u8], fields: &[HeaderSpan]) -> Said
     }
 }
 
-/// What so many bytes are if their head is whole, its body begins at `start`, and its fields say this of the length.
+/// What `count` bytes are whose head is whole and has the status `code`. The body begins at `start`, and the fields say
+/// `said` of its length.
 fn heard_by(count: usize, code: u16, start: usize, said: Said) -> Heard
     requires { start ≤ count }
     ensures { result ≡ heard_by count code start said }
@@ -103,7 +104,7 @@ fn judge(bytes: &[u8], fields: &[HeaderSpan], head: &ResponseSpans) -> Heard
     heard_by(bytes.len(), head.code, head.len, said)
 }
 
-/// What some bytes are. Allocates no memory.
+/// Judges the bytes that came so far. Allocates no memory.
 #[tactic(auto, using(crate::proofs::AnswerLaws::cut_unread, crate::proofs::AnswerLaws::other_unread, crate::proofs::AnswerLaws::other_refused))]
 pub(crate) fn hear(bytes: &[u8]) -> Heard
     ensures { Hears bytes.now result }

@@ -1,4 +1,5 @@
-//! A detector alone: it is opened, hears a packet, and ticks. After each event it says what there is to do.
+//! A detector alone: it is opened, hears a packet, and ticks. After each event the program prints how many packets
+//! there are to send, how many records changed, and when the next tick is due.
 #![tactic(auto)]
 
 use lg_detector::{Detector, Event, Reply};
@@ -13,7 +14,9 @@ const PING: &[u8; 26] =
 
 fn main(rt: HostRuntime) -> io::Result<()> {
     let now = Moment::default();
-    let name = Name::new(b"b").unwrap_or_default();
+    let Ok(name) = Name::new(b"b") else {
+        return println!(rt; "no name");
+    };
     let config = Config::new(name, Addr::v4([127, 0, 0, 1], 7000));
     let source = Addr::v4([127, 0, 0, 1], 9000);
     let Ok(packet) = decode(PING) else {
@@ -32,6 +35,7 @@ fn main(rt: HostRuntime) -> io::Result<()> {
     let mut detector = Detector::blank(rt.alloc())?;
     let mut reply = Reply::default();
     for event in &events {
+        // `step` takes only what this says yes to.
         if detector.accepts(event) {
             detector.step(event, &mut reply);
             let (sends, changed) = (reply.sends.len(), reply.changed.len());

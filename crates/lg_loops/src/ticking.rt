@@ -68,47 +68,6 @@ fn pause_for(deadline: u64, now: Moment, limit: u64, wait_ms: u64) -> u64
         .min(wait_ms)
 }
 
-/// One turn at a moment: ticks if the next deadline has come. Otherwise it does what the agenda says, or pauses. A
-/// reply is written over `reply`.
-fn tick_turn<A: AgentName, R: Wait, L: Link, C: Clock, D: Dice>(
-    shared: &Shared<'_, R, C>,
-    ticker: &mut Ticker<'_, L, A, D>,
-    plan: &Plan,
-    agenda: &mut Agenda,
-    now: Moment,
-    reply: &mut Reply,
-) -> Turned
-    ensures { now < plan.now.until
-        → (acted : Acted plan.now plan.now L.tells
-        (line (L.log ticker.old.side.link) (L.failed ticker.old.side.link))
-        (line (L.log ticker.new.side.link) (L.failed ticker.new.side.link)) ticker.old.side.pass
-        ticker.new.side.pass agenda.old agenda.new result)
-        × Threw D.throws ticker.old.dice (words_in acted.took.turn) ticker.new.dice }
-{
-    let deadline = match ticker.side.pass.next_deadline() {
-        Ok(deadline) => deadline,
-        Err(refusal) => return Turned::end(Why::Refused(refusal)),
-    };
-    let moment = now.milliseconds();
-    if deadline <= moment {
-        return tick(shared, ticker, now, reply);
-    }
-    match agenda.duty(plan, now) {
-        Duty::Seed(peer) => ask_seed(shared, &mut ticker.side, agenda, now, peer, reply),
-        Duty::Look => look(shared, &mut ticker.side, plan, agenda, now),
-        Duty::SeedInTurn(peer) => {
-            agenda.note_asking(plan, now);
-            ask_in_turn(shared, &mut ticker.side, now, peer, reply)
-        }
-        Duty::Member => ask_member(shared, ticker, plan, agenda, now, reply),
-        Duty::Rest(limit) => {
-            let pause = pause_for(deadline, now, limit, shared.wait_ms);
-            shared.clock.pause(pause);
-            Turned::on()
-        }
-    }
-}
-
 /// The moment of the next turn, or none if the loop is to stop: its end time has come, or, if it heeds the stop flag,
 /// that flag is set. A loop that doesn't heed it lingers, and the receiving loop may have ended by then, which would
 /// hold a steady clock back for ever. So each turn of it counts as one of both loops.
@@ -168,8 +127,9 @@ fn depart<A: AgentName, R: Wait, L: Link, C, D: Dice>(
     }
 }
 
-/// The next turn of a loop, or none if it is to stop and this member doesn't leave, or has left. A reply is written
-/// over `reply`.
+/// The next turn of a loop, or none if it is to stop and this member doesn't leave, or has left. If the loop goes on, it
+/// ticks if the next deadline has come. Otherwise it does what the agenda says, or pauses. A reply is written over
+/// `reply`.
 fn next_turn<A: AgentName, R: Wait, L: Link, C: Clock, D: Dice>(
     shared: &Shared<'_, R, C>,
     ticker: &mut Ticker<'_, L, A, D>,
@@ -191,7 +151,27 @@ fn next_turn<A: AgentName, R: Wait, L: Link, C: Clock, D: Dice>(
         let now = shared.clock.now();
         return Some(depart(shared, ticker, plan, agenda, now, reply));
     };
-    Some(tick_turn(shared, ticker, plan, agenda, now, reply))
+    let deadline = match ticker.side.pass.next_deadline() {
+        Ok(deadline) => deadline,
+        Err(refusal) => return Some(Turned::end(Why::Refused(refusal))),
+    };
+    if deadline <= now.milliseconds() {
+        return Some(tick(shared, ticker, now, reply));
+    }
+    Some(match agenda.duty(plan, now) {
+        Duty::Seed(peer) => ask_seed(shared, &mut ticker.side, agenda, now, peer, reply),
+        Duty::Look => look(shared, &mut ticker.side, plan, agenda, now),
+        Duty::SeedInTurn(peer) => {
+            agenda.note_asking(plan, now);
+            ask_in_turn(shared, &mut ticker.side, now, peer, reply)
+        }
+        Duty::Member => ask_member(shared, ticker, plan, agenda, now, reply),
+        Duty::Rest(limit) => {
+            let pause = pause_for(deadline, now, limit, shared.wait_ms);
+            shared.clock.pause(pause);
+            Turned::on()
+        }
+    })
 }
 
 /// Ticks whenever the next deadline has come, and hands the packets of the replies to a link, until the stop flag is
