@@ -16,6 +16,8 @@ FIRST_PORT = 17400
 # How long a group is waited for at most, and how long it rests before it is measured at rest, in seconds.
 PATIENCE = 120.0
 CALM, REST = 35.0, 30.0
+# How long a round is, in seconds: the default of both programs.
+ROUND = 1.0
 # For how many seconds a node runs if nobody ends it before.
 LASTS = 600
 
@@ -183,12 +185,13 @@ def running(start: Callable[[str, int, int | None], list[str]], size: int) -> It
         group.end()
 
 
-def measured(start: Callable[[str, int, int | None], list[str]], size: int, is_quick: bool) -> Figures:
-    """Starts a group, lets it rest, and kills one member."""
+def measured(start: Callable[[str, int, int | None], list[str]], size: int, is_quick: bool, later: float) -> Figures:
+    """Starts a group, lets it rest, and kills one member so many seconds later."""
     with running(start, size) as group:
         whole, *starting = group.meanwhile(group.all_know_all)
         group.read(5.0 if is_quick else CALM)
         _, *resting = group.meanwhile(group.at_rest)
+        group.read(later)
         failed, *dying = group.meanwhile(group.death_known)
         return Figures(whole, *starting, *resting, failed, *dying, group.wrongly_failed())
 
@@ -219,13 +222,17 @@ def print_groups(
     kinds: dict[str, Callable[[str, int, int | None], list[str]]], sizes: list[int], turns: int, is_quick: bool,
     print_row: Callable[..., None],
 ) -> None:
-    """Prints a table for each size: the medians of so many groups of each kind, one after another."""
+    """Prints a table for each size: the medians of so many groups of each kind, one after another.
+
+    The members of a group start at once, so their rounds go in step for long. The kills are spread evenly over a round,
+    since it makes a difference of up to a round where in it a member is killed.
+    """
     for size in sizes:
         print_row(f"{size} members", *kinds)
         runs: dict[str, list[Figures]] = {name: [] for name in kinds}
         for turn in range(turns):
             for name, start in kinds.items():
-                runs[name].append(measured(start, size, is_quick))
+                runs[name].append(measured(start, size, is_quick, ROUND * turn / turns))
                 print(f"{size} {name} {turn}: {runs[name][-1]}", file=sys.stderr, flush=True)
         found = [middle(each) for each in runs.values()]
         for label, spelled in ROWS:
