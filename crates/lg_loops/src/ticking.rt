@@ -127,8 +127,8 @@ fn depart<A: AgentName, R: Wait, L: Link, C, D: Dice>(
     }
 }
 
-/// The next turn of a loop, or none if it is to stop and this member doesn't leave, or has left. If the loop goes on, it
-/// ticks if the next deadline has come. Otherwise it does what the agenda says, or pauses. A reply is written over
+/// The next turn of a loop, or none if it is to stop and this member doesn't leave, or has left. If the loop goes on,
+/// it ticks if the next deadline has come. Otherwise it does what the agenda says, or pauses. A reply is written over
 /// `reply`.
 fn next_turn<A: AgentName, R: Wait, L: Link, C: Clock, D: Dice>(
     shared: &Shared<'_, R, C>,

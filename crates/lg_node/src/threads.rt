@@ -17,9 +17,9 @@
 //! `tick_loop` (of `lg_loops`). The last two are the program's: the writer of what a followed node tells
 //! (`lg_cli/src/output.rt`), and the reader of the input whose end is to end the node (`lg_cli/src/node.rt`).
 //!
-//! The receiving loop sets the stop flag when it ends, at which the ticking one ends, and this one sets the flag that it
-//! is over, at which the receiving one ends. So a member that leaves is still heard and answered while its ticking loop
-//! lingers. When both have ended, the watcher is woken, which sees that it is over, and the server is told to stop.
+//! The receiving loop sets the stop flag when it ends, at which the ticking one ends, and this one sets the flag that
+//! it is over, at which the receiving one ends. So a member that leaves is still heard and answered while its ticking
+//! loop lingers. When both have ended, the watcher is woken, which sees that it is over, and the server is told to stop.
 //!
 //! Defined in: `specs/Meaning/Nodes.antt`, `lg_loops/specs/Meaning/Turns.antt`, `lg_loops/specs/Meaning/Pulling.antt`,
 //! `lg_loops/specs/Meaning/BothLoops.antt`.
