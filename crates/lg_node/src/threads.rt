@@ -19,7 +19,8 @@
 //!
 //! The receiving loop sets the stop flag when it ends, at which the ticking one ends, and this one sets the flag that
 //! it is over, at which the receiving one ends. So a member that leaves is still heard and answered while its ticking
-//! loop lingers. When both have ended, the watcher is woken, which sees that it is over, and the server is told to stop.
+//! loop lingers. When both have ended, the watcher is woken, which sees that it is over, and the server is told to
+//! stop.
 //!
 //! Defined in: `specs/Meaning/Nodes.antt`, `lg_loops/specs/Meaning/Turns.antt`, `lg_loops/specs/Meaning/Pulling.antt`,
 //! `lg_loops/specs/Meaning/BothLoops.antt`.
