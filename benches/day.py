@@ -57,6 +57,8 @@ class Life(Told):
     tell: Callable[["Life", str, str], None] = lambda life, name, status: None
     # The members that ran all the time since this one was started, and haven't told yet that it is alive.
     waiting: list["Life"] = field(default_factory=list)
+    # What was told of this member, from the first on: when, by whom, and the status.
+    history: list[tuple[float, "Life", str]] = field(default_factory=list)
 
     def hear(self, words: list[str]) -> None:
         super().hear(words)
@@ -182,6 +184,7 @@ class Day(Nodes[Life]):
         life = self.lives.get(name)
         if life is None:
             return
+        life.history.append((time.monotonic(), teller, status))
         if status == "alive" and teller in life.waiting:
             life.waiting.remove(teller)
             if not life.waiting:
@@ -189,11 +192,22 @@ class Day(Nodes[Life]):
         left = self.left.get(name, -math.inf)
         has_left = life.how == "left" or time.monotonic() - left < COMES_BACK
         if status == "failed" and has_left:
+            if (name, left) not in self.counts.failed_after_leave:
+                self.explain(life, teller, left)
             self.counts.failed_after_leave.add((name, left))
         elif status == "failed" and not life.how:
             self.counts.failed_alive.add((name, life.begun))
         elif status == "suspect" and has_left:
             self.counts.suspected_after_leave.add((name, left))
+
+    def explain(self, life: Life, teller: Life, left: float) -> None:
+        """Says on standard error how a member came to be told as failed that left: what its teller told of it before,
+        and when all others told that it had left, in seconds behind the leave."""
+        own = [f"{status} {at - left:.2f}" for at, it, status in life.history if it is teller]
+        others = [at - left for at, it, status in life.history if it is not teller and status == "left"]
+        heard = f"{len(others)} heard of the leave, from {min(others):.2f} to {max(others):.2f}" if others else "nobody heard"
+        print(f"{life.name} left and was told as failed by {teller.name}, which began {teller.begun - left:.2f}: "
+              f"{', '.join(own)}; {heard}", file=sys.stderr, flush=True)
 
     def look(self) -> None:
         """Compares the tables of the sixteen with who lives and who ended not long ago."""
