@@ -86,7 +86,9 @@ class Known:
         return None
 
     def accuse(self, claim, record):
-        """Hears a claim that doesn't override: it may be a further accusation."""
+        """Hears a claim that doesn't override: it may be a further accusation, or suspect a member that left."""
+        if claim.status == SUSPECT and record.status == LEFT:
+            self.repeat(record)
         if claim.status != SUSPECT or claim.rank() != record.rank():
             return
         suspicion = self.suspicions[claim.member]
@@ -94,6 +96,11 @@ class Known:
             suspicion.accusers.append(claim.accuser)
             self.tell(claim)
             self.set_suspicion(claim.member)
+
+    def repeat(self, record):
+        """Tells of a leave again, unless it waits to be told: somebody hasn't heard of it."""
+        if self.has_version_three() and record.member not in self.waiting():
+            self.tell(record)
 
     def set_suspicion(self, name):
         self.timers[SUSPICION, name] = self.suspicions[name].deadline()

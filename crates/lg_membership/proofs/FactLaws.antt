@@ -12,13 +12,13 @@ use Rattle.lg_rules.proofs.Naming.{heard-past, heard-oneself, known-leaves, forg
 use Rattle.lg_timing.specs.declared.config.Config.{Config}
 use Rattle.lg_timing.specs.Meaning.Config.{does_forget}
 use Rattle.lg_membership.specs.declared.origin.Origin.{Origin}
-use Rattle.lg_membership.specs.Meaning.Log.{GroupLog, Opened, Said, Sent, Departed, Forgot, config, me, own_facts, own, forgets, opening_addr}
+use Rattle.lg_membership.specs.Meaning.Log.{GroupLog, Opened, Said, Sent, Departed, Forgot, config, me, own_facts, own, forgets, table, opening_addr}
 use Rattle.lg_rules.proofs.Removing.{without-missing}
 use Rattle.lg_membership.specs.Meaning.Suspicions.{suspicions, suspected_name}
-use Rattle.lg_membership.specs.Meaning.Gossip.{lambda_in, version_sent, put_of_oneself, queue}
+use Rattle.lg_membership.specs.Meaning.Gossip.{lambda_in, version_sent, put_of_oneself, put_of_other, queue}
 use Rattle.lg_membership.specs.Support.State.{group_state_of, open_group, apply_own, apply_other, apply_to_group}
 use Rattle.lg_membership.specs.Support.State.{leave_group, without_name, forget_from_group, send_from_group, queue_with}
-use Rattle.lg_membership.proofs.QueueLaws.{waits-log, queue-own, queue-other, queue-sent, queue-left, queue-opened, rows-forgot, rows-forgot_own}
+use Rattle.lg_membership.proofs.QueueLaws.{own-waits, waits-log, queue-own, queue-other, queue-sent, queue-left, queue-opened, rows-forgot, rows-forgot_own}
 use Rattle.lg_membership.proofs.SuspicionLaws.{suspicions-sent, suspicions-left, suspicions-forgot, row_at-suspicions_own, rises-suspicions, suspicions-opened, suspicions-own, suspicions-other}
 
 pub open-state : (opening : Config) (log : GroupLog) → open_group opening (group_state_of log) ≡ group_state_of (Opened opening ∷ log)
@@ -30,10 +30,10 @@ open-state opening log = λ i. record {
   queue = queue-opened opening log i;
 }
 
--- what a claim about oneself puts, by the state
+-- what a claim puts, by the state
 own-put : (now : ℕ) (origin : Origin) (c : Claim) (log : GroupLog) → c.name ≡ me log → (apply_own c (group_state_of log)).queue ≡ queue (Said now origin c ∷ log)
 own-put now origin c log same =
-    ap (λ w. queue_with (put_of_oneself (version_sent (config log)) w (own log) c) (queue log)) (waits-log log)
+    ap (λ w. queue_with (put_of_oneself (version_sent (config log)) w (own log) c) (queue log)) (own-waits log)
     ∙ queue-own now origin log c same
 
 own-applied : (now : ℕ) (origin : Origin) (c : Claim) (log : GroupLog) → c.name ≡ me log → apply_own c (group_state_of log) ≡ group_state_of (Said now origin c ∷ log)
@@ -45,13 +45,18 @@ own-applied now origin c log same = λ i. record {
   queue = own-put now origin c log same i;
 }
 
+other-put : (now : ℕ) (origin : Origin) (c : Claim) (log : GroupLog) → c.name ≢ me log → (apply_other now origin c (group_state_of log)).queue ≡ queue (Said now origin c ∷ log)
+other-put now origin c log other =
+    ap (λ w. queue_with (put_of_other (version_sent (config log)) w origin (forgets log) (table log) (suspicions log) c) (queue log)) (waits-log log c.name)
+    ∙ queue-other now origin log c other
+
 other-applied : (now : ℕ) (origin : Origin) (c : Claim) (log : GroupLog) → c.name ≢ me log → apply_other now origin c (group_state_of log) ≡ group_state_of (Said now origin c ∷ log)
 other-applied now origin c log other = λ i. record {
   config = config log;
   own = sym (own-other (me log) (opening_addr (config log)) c (own_facts log) other) i;
   members = heard-past (forgets log) (me log) c (own_facts log) other i;
   suspicions = suspicions-other now origin log c other i;
-  queue = queue-other now origin log c other i;
+  queue = other-put now origin c log other i;
 }
 
 -- oneself has the own name

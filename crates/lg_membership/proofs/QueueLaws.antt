@@ -21,10 +21,10 @@ use Rattle.lg_membership.specs.declared.origin.Origin.{Origin}
 use Rattle.lg_membership.specs.Meaning.Log.{GroupLog, Opened, Said, Sent, Departed, Forgot, config, me, own_facts, own, opening_addr, forgets, table, known, live}
 use Rattle.lg_membership.specs.Meaning.Suspicions.{suspicions}
 use Rattle.lg_membership.specs.Meaning.Gossip.{lambda_in, version_sent, own_arrival, put_of_other, put_of_leave, queued_by}
-use Rattle.lg_membership.specs.Meaning.Gossip.{send_limit_after, own_waits, queued, queue_rows, queue}
+use Rattle.lg_membership.specs.Meaning.Gossip.{send_limit_after, waits, queued, queue_rows, queue}
 use Rattle.lg_membership.specs.Support.State.{queue_with, blank_queue, opened_queue}
 use Rattle.lg_membership.proofs.KnownLaws.{rises-known, own_known, known-own, known-taken, known-passed, known-left, known-forgot, known-forgot_own}
-use Rattle.lg_membership.proofs.QueuedLaws.{put_after, put_about_own, arrival_name, leave_name, queued-sent, queued-left, put_by-own, put_by-other, put_by-grows}
+use Rattle.lg_membership.proofs.QueuedLaws.{put_after, put_about_own, put_about_other, arrival_name, leave_name, queued-sent, queued-left, put_by-own, put_by-other, put_by-grows}
 use Rattle.lg_membership.proofs.QueuedLaws.{queued-forgotten, queued-kept, queued-own_kept, queued_keyed, queued_unknown, by-put, by-put_other, queued-put, queued-put_other, queued-no_put}
 
 abbrev names_after : ℕ → Origin → GroupLog → Claim → List (List ℕ)
@@ -74,9 +74,9 @@ queue-own now origin log c same =
     queue-by now origin log c put (λ e. rows-stay now origin log c (says ∙ e) (known-own now origin log c same)) (λ p e. rows-queued now origin log c p (says ∙ e))
 
 -- the queue once a claim about another is said
-pub queue-other : (now : ℕ) (origin : Origin) (log : GroupLog) (c : Claim) → c.name ≢ me log → queue_with (put_of_other origin (forgets log) (table log) (suspicions log) c) (queue log) ≡ queue (Said now origin c ∷ log)
+pub queue-other : (now : ℕ) (origin : Origin) (log : GroupLog) (c : Claim) → c.name ≢ me log → queue_with (put_about_other origin log c) (queue log) ≡ queue (Said now origin c ∷ log)
 queue-other now origin log c other =
-    let put = put_of_other origin (forgets log) (table log) (suspicions log) c in
+    let put = put_about_other origin log c in
     let says = put_by-other origin log c other in
     let joined : (p : Claim) → put ≡ Some p → put_row name_cmp queued_name (fresh (version_sent (config log)) p) (queue_rows log) ≡ queue_rows (Said now origin c ∷ log) = λ p e. rows-queued now origin log c p (says ∙ e) in
     elim (heard_cases (forgets log) (me log) c (own_facts log) other) [
@@ -140,16 +140,22 @@ rows-forgot_own n log e =
     sym (rows_equal (queued log) (queued (Forgot n ∷ log)) (known log) (λ m. queued-own_kept n log m e))
     ∙ ap (filter_map (queued (Forgot n ∷ log))) (sym (known-forgot_own n log e))
 
--- Whether this member's own record still waits, by the queue.
-own_row : (log : GroupLog) → row_at name_cmp queued_name (own log).name (queue_rows log) ≡ queued log (me log)
+-- Whether a claim about a member still waits, by the queue.
+queued_row : (log : GroupLog) (m : List ℕ) → row_at name_cmp queued_name m (queue_rows log) ≡ queued log m
 unfolding queue_rows
-own_row log =
-    ap (λ (n : List ℕ). row_at name_cmp queued_name n (queue_rows log)) (own_of_name (me log) (opening_addr (config log)) (own_facts log))
-    ∙ row_at-rows names_order queued_name (queued log) (me log) (known log) (rises-known log) (queued_keyed log)
-    ∙ ap (λ b. cond b (queued log (me log)) None) (own_known log)
+queued_row log m =
+    row_at-rows names_order queued_name (queued log) m (known log) (rises-known log) (queued_keyed log)
+    ∙ (elim (cases_Bool (is_among name_cmp m (known log))) [
+      | inl among ↦ ap (λ b. cond b (queued log m) None) among
+      | inr out ↦ ap (λ b. cond b (queued log m) None) out ∙ sym (queued_unknown log m out)
+    ])
 
-pub waits-log : (log : GroupLog) → may_send_about (own log).name (queue log) (live log) ≡ own_waits log
-waits-log log = ap (is_below (send_limit_after log)) (own_row log)
+pub waits-log : (log : GroupLog) (m : List ℕ) → may_send_about m (queue log) (live log) ≡ waits log m
+waits-log log m = ap (is_below (send_limit_after log)) (queued_row log m)
+
+-- the same of this member's own record
+pub own-waits : (log : GroupLog) → may_send_about (own log).name (queue log) (live log) ≡ waits log (me log)
+own-waits log = waits-log log (own log).name ∙ ap (waits log) (own_of_name (me log) (opening_addr (config log)) (own_facts log))
 
 pub none_rows : {K R : Type 0} (f : K → Option R) (ns : List K) → ((n : K) → f n ≡ None) → filter_map f ns ≡ []
 none_rows f [] h = refl

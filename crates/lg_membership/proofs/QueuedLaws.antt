@@ -4,6 +4,7 @@ use Rattle.std.specs.Prelude.{option_map}
 use Rattle.std.proofs.lemmas.Bool.{cases_Bool}
 use Rattle.lg_rules.specs.Meaning.Claim.{accuser_of, is_gone, name_of}
 use Rattle.lg_rules.specs.declared.claim.Claim.{Claim}
+use Rattle.lg_rules.specs.declared.claim.Status.{Status}
 use Rattle.lg_rules.specs.declared.own.OwnHeard.{OwnHeard}
 use Rattle.lg_rules.specs.declared.own.OwnHeard.TheVariants.{Refuted, Raised, Ousted, Ignored}
 use Rattle.lg_rules.specs.declared.version.Version.{Version}
@@ -21,31 +22,37 @@ use Rattle.lg_rules.specs.Meaning.Table.{record_of}
 use Rattle.lg_timing.specs.declared.config.Config.{Config}
 use Rattle.lg_timing.specs.Meaning.Config.{version_of}
 use Rattle.lg_gossip.specs.declared.queued.Queued.{Queued}
-use Rattle.lg_gossip.specs.Meaning.Queue.{fresh, queued_name, sent_once}
+use Rattle.lg_gossip.specs.Meaning.Queue.{fresh, is_suspect, queued_name, sent_once}
 use Rattle.lg_membership.specs.declared.origin.Origin.{Origin}
 use Rattle.lg_membership.specs.declared.origin.Origin.TheVariants.{Seed, Group}
 use Rattle.lg_membership.specs.Meaning.Log.{GroupLog, Opened, Said, Sent, Departed, Forgot, config, me, own_facts, own, forgets, table, known, loses}
 use Rattle.lg_membership.specs.Meaning.Suspicions.{SuspectedValue, suspicions, suspected_name, is_accusation, counts_in, confirms}
 use Rattle.lg_membership.specs.Meaning.Gossip.{tells_news, answers_doubt, own_arrival, put_of_own, put_if_answered, put_of_oneself}
-use Rattle.lg_membership.specs.Meaning.Gossip.{put_if, put_of_other, put_by, put_if_leaves, put_of_leave, queued_by, version_sent, queued, own_waits}
+use Rattle.lg_membership.specs.Meaning.Gossip.{put_if, counted_or, is_left, record_if, leave_to_repeat}
+use Rattle.lg_membership.specs.Meaning.Gossip.{put_of_other, put_by, put_if_leaves, put_of_leave, queued_by, version_sent, queued, waits}
+use Rattle.lg_membership.proofs.Chosen.{found_key}
 use Rattle.lg_membership.proofs.KnownLaws.{rises-known, own_known, known-own, known-taken, known-passed, known-grows, known-left, known-kept, roster_known}
 
 -- What a claim puts into the queue, if it is said after a log: about oneself or another.
 abbrev pub put_after : Origin → GroupLog → Claim → Option Claim
-put_after origin log c = put_by origin (own_waits log) log c
+put_after origin log c = put_by origin (waits log c.name) log c
 
 abbrev pub put_about_own : GroupLog → Claim → Option Claim
-put_about_own log c = put_of_oneself (version_sent (config log)) (own_waits log) (own log) c
+put_about_own log c = put_of_oneself (version_sent (config log)) (waits log (me log)) (own log) c
+
+abbrev pub put_about_other : Origin → GroupLog → Claim → Option Claim
+put_about_other origin log c = put_of_other (version_sent (config log)) (waits log c.name) origin (forgets log) (table log) (suspicions log) c
 
 pub put_by-own : (origin : Origin) (log : GroupLog) (c : Claim) → c.name ≡ me log → put_after origin log c ≡ put_about_own log c
 unfolding put_by
 put_by-own origin log c same =
-    ap (λ b. cond b (put_about_own log c) (put_of_other origin (forgets log) (table log) (suspicions log) c)) (same_key names_order c.name (me log) same)
+    ap (λ b. cond b (put_of_oneself (version_sent (config log)) (waits log c.name) (own log) c) (put_about_other origin log c)) (same_key names_order c.name (me log) same)
+    ∙ ap (λ n. put_of_oneself (version_sent (config log)) (waits log n) (own log) c) same
 
-pub put_by-other : (origin : Origin) (log : GroupLog) (c : Claim) → c.name ≢ me log → put_after origin log c ≡ put_of_other origin (forgets log) (table log) (suspicions log) c
+pub put_by-other : (origin : Origin) (log : GroupLog) (c : Claim) → c.name ≢ me log → put_after origin log c ≡ put_about_other origin log c
 unfolding put_by
 put_by-other origin log c other =
-    ap (λ b. cond b (put_about_own log c) (put_of_other origin (forgets log) (table log) (suspicions log) c)) (other_key names_order c.name (me log) other)
+    ap (λ b. cond b (put_of_oneself (version_sent (config log)) (waits log c.name) (own log) c) (put_about_other origin log c)) (other_key names_order c.name (me log) other)
 
 put_own_name : (o : OwnHeard) (oneself : OwnValue) (p : Claim) → put_of_own o oneself ≡ Some p → p.name ≡ oneself.name
 put_own_name Refuted oneself p e = ap (λ (r : Claim). r.name) (sym (held_once (own_record oneself) p e))
@@ -60,7 +67,7 @@ put_answered_name false o oneself p e = put_own_name o oneself p e
 -- what a claim about oneself puts is about oneself
 pub own_put_name : (log : GroupLog) (c p : Claim) → put_about_own log c ≡ Some p → p.name ≡ me log
 own_put_name log c p e =
-    put_answered_name (answers_doubt (version_sent (config log)) (own_waits log) (own log) c) (own_hearing (own log) c) (own_heard (own log) c) p e
+    put_answered_name (answers_doubt (version_sent (config log)) (waits log (me log)) (own log) c) (own_hearing (own log) c) (own_heard (own log) c) p e
     ∙ own_heard_name (own log) c
     ∙ own_of_name (me log) _ (own_facts log)
 
@@ -113,46 +120,86 @@ queued_keyed (Forgot n ∷ log) m r e = elim (cases_Bool (loses log n m)) [
   | inr f ↦ queued_keyed log m r (rw f at e)
 ]
 
--- What a claim about another puts is the claim.
-if_is : (origin : Origin) (b : Bool) (c p : Claim) → put_if origin b c ≡ Some p → c ≡ p
-if_is Seed b c p e = absurd cc
-if_is Group true c p e = held_once c p e
-if_is Group false c p e = absurd cc
+-- What a claim about another puts is about the claim's member: it is the claim, or the member's record.
+no_claim : (p : Claim) (A : Type 0) → None ≡ Some p → A
+no_claim p A e = absurd cc
 
-pub put_is : (origin : Origin) (forgetting : Bool) (rows : List Claim) (suspects : List SuspectedValue) (c p : Claim) → put_of_other origin forgetting rows suspects c ≡ Some p → c ≡ p
-put_is origin forgetting rows suspects c p e = if_is origin (takes forgetting rows c || confirms forgetting rows suspects c) c p e
+if_is : (origin : Origin) (o : Option Claim) (p : Claim) → put_if origin o ≡ Some p → o ≡ Some p
+if_is Seed o p e = absurd cc
+if_is Group o p e = e
 
-if_not : (origin : Origin) (c : Claim) → put_if origin false c ≡ None
-if_not Seed c = refl
-if_not Group c = refl
+counted_name : (b : Bool) (c : Claim) (o : Option Claim) (p : Claim) → (o ≡ Some p → c.name ≡ p.name) → counted_or b c o ≡ Some p → c.name ≡ p.name
+counted_name true c o p rest e = ap name_of (held_once c p e)
+counted_name false c o p rest e = rest e
 
-put_none : (origin : Origin) (forgetting : Bool) (rows : List Claim) (suspects : List SuspectedValue) (c : Claim) → (takes forgetting rows c || confirms forgetting rows suspects c) ≡ false
-    → put_of_other origin forgetting rows suspects c ≡ None
-put_none origin forgetting rows suspects c test = ap (λ b. put_if origin b c) test ∙ if_not origin c
+record_is : (test : Status → Bool) (o : Option Claim) (p : Claim) → record_if test o ≡ Some p → o ≡ Some p
+record_is test None p e = absurd cc
+record_is test (Some r) p e = elim (cases_Bool (test r.status)) [
+  | inl t ↦ rw t at e
+  | inr f ↦ no_claim p (Some r ≡ Some p) (rw f at e)
+]
+
+repeated_is : (b : Bool) (o : Option Claim) (p : Claim) → cond b o None ≡ Some p → o ≡ Some p
+repeated_is true o p e = e
+repeated_is false o p e = no_claim p (o ≡ Some p) e
+
+repeated_name : (v : Version) (w : Bool) (rows : List Claim) (c p : Claim) → leave_to_repeat v w rows c ≡ Some p → c.name ≡ p.name
+repeated_name v w rows c p e =
+    let found = row_at name_cmp name_of c.name rows in
+    sym (found_key names_order name_of c.name rows p
+    (record_is is_left found p (repeated_is (tells_news v && (is_suspect c.status && not w)) (record_if is_left found) p e)))
+
+pub put_name : (v : Version) (w : Bool) (origin : Origin) (forgetting : Bool) (rows : List Claim) (suspects : List SuspectedValue) (c p : Claim)
+    → put_of_other v w origin forgetting rows suspects c ≡ Some p → c.name ≡ p.name
+put_name v w origin forgetting rows suspects c p e =
+    let repeated = leave_to_repeat v w rows c in
+    let counts = takes forgetting rows c || confirms forgetting rows suspects c in
+    counted_name counts c repeated p (repeated_name v w rows c p) (if_is origin (counted_or counts c repeated) p e)
+
+if_not : (origin : Origin) → put_if origin None ≡ None
+if_not Seed = refl
+if_not Group = refl
+
+either_none : (b : Bool) (o : Option Claim) → o ≡ None → cond b o None ≡ None
+either_none true o e = e
+either_none false o e = refl
+
+repeated_none : (v : Version) (w : Bool) (rows : List Claim) (c : Claim) → row_at name_cmp name_of c.name rows ≡ None → leave_to_repeat v w rows c ≡ None
+repeated_none v w rows c missing =
+    either_none (tells_news v && (is_suspect c.status && not w)) (record_if is_left (row_at name_cmp name_of c.name rows)) (ap (record_if is_left) missing)
+
+put_none : (v : Version) (w : Bool) (origin : Origin) (forgetting : Bool) (rows : List Claim) (suspects : List SuspectedValue) (c : Claim) → (takes forgetting rows c || confirms forgetting rows suspects c) ≡ false
+    → row_at name_cmp name_of c.name rows ≡ None → put_of_other v w origin forgetting rows suspects c ≡ None
+put_none v w origin forgetting rows suspects c test missing =
+    ap (λ b. put_if origin (counted_or b c (leave_to_repeat v w rows c))) test
+    ∙ ap (put_if origin) (repeated_none v w rows c missing)
+    ∙ if_not origin
 
 -- A claim about a name that isn't let in puts nothing.
 no_accusation : (b d : Bool) → (is_accusation (cond b Unheeded NoRoom) && d) ≡ false
 no_accusation true d = refl
 no_accusation false d = refl
 
-out_none : (origin : Origin) (forgetting : Bool) (rows : List Claim) (suspects : List SuspectedValue) (c : Claim) → takes forgetting rows c ≡ false → row_at name_cmp name_of c.name rows ≡ None
-    → put_of_other origin forgetting rows suspects c ≡ None
-out_none origin forgetting rows suspects c test missing =
-    put_none origin forgetting rows suspects c (rw (test, missing) (no_accusation (forgetting && is_gone c.status) (counts_in (accuser_of c.status) (row_at name_cmp suspected_name c.name suspects))))
+out_none : (v : Version) (w : Bool) (origin : Origin) (forgetting : Bool) (rows : List Claim) (suspects : List SuspectedValue) (c : Claim) → takes forgetting rows c ≡ false → row_at name_cmp name_of c.name rows ≡ None
+    → put_of_other v w origin forgetting rows suspects c ≡ None
+out_none v w origin forgetting rows suspects c test missing =
+    put_none v w origin forgetting rows suspects c
+    (rw (test, missing) (no_accusation (forgetting && is_gone c.status) (counts_in (accuser_of c.status) (row_at name_cmp suspected_name c.name suspects))))
+    missing
 
 pub row_out : (log : GroupLog) (m : List ℕ) → is_among name_cmp m (roster (forgets log) (me log) (own_facts log)) ≡ false → row_at name_cmp name_of m (table log) ≡ None
 row_out log m out = row_at-table (forgets log) (me log) (own_facts log) m ∙ ap (λ b. cond b (record_of (forgets log) (me log) (own_facts log) m) None) out
 
 -- What is put is about oneself or about the claim's member: the names that are known then are those before and this one.
-put_other_name : (now : ℕ) (origin : Origin) (log : GroupLog) (c p : Claim) → put_of_other origin (forgets log) (table log) (suspicions log) c ≡ Some p → c.name ≢ me log
+put_other_name : (now : ℕ) (origin : Origin) (log : GroupLog) (c p : Claim) → put_about_other origin log c ≡ Some p → c.name ≢ me log
     → known (Said now origin c ∷ log) ≡ put_key name_cmp p.name (known log)
 put_other_name now origin log c p e other =
-    let name = ap (λ (q : Claim). put_key name_cmp q.name (known log)) (put_is origin (forgets log) (table log) (suspicions log) c p e) in
+    let name = ap (λ n. put_key name_cmp n (known log)) (put_name (version_sent (config log)) (waits log c.name) origin (forgets log) (table log) (suspicions log) c p e) in
     elim (heard_cases (forgets log) (me log) c (own_facts log) other) [
       | Taken t ↦ known-taken now origin log c t ∙ name
       | Unbeaten k ↦ known-passed now origin log c k.names ∙ sym (put-there names_order c.name (known log) (rises-known log) (roster_known log c.name k.among)) ∙ name
       | Out o ↦ (
-          let bad : None ≡ Some p = sym (out_none origin (forgets log) (table log) (suspicions log) c o.taken (row_out log c.name o.out)) ∙ e in
+          let bad : None ≡ Some p = sym (out_none (version_sent (config log)) (waits log c.name) origin (forgets log) (table log) (suspicions log) c o.taken (row_out log c.name o.out)) ∙ e in
           absurd cc)
     ]
 

@@ -1,8 +1,8 @@
 -- In a state that some log has, each claim can be applied.
-use Rattle.std.proofs.Common.{◌≡◌, ◌≢◌, ℕ, ◌<◌, ◌≤◌, true, false, cond, List, ◌∷◌, length, Option, Some, None, refl, sym, ◌∙◌, ap, subst}
+use Rattle.std.proofs.Common.{◌≡◌, ◌≢◌, ℕ, ◌<◌, ◌≤◌, true, false, cond, List, ◌∷◌, length, Option, Some, None, inl, inr, refl, sym, ◌∙◌, ap, subst}
 use Rattle.lg_rules.specs.declared.claim.Claim.{Claim}
 use Rattle.lg_rules.specs.Meaning.Rows.{name_cmp, is_same, put_key, row_at}
-use Rattle.lg_rules.proofs.KeyOrder.{names_order, same_key, other_key}
+use Rattle.lg_rules.proofs.KeyOrder.{names_order, cases_key, same_key, other_key}
 use Rattle.lg_rules.proofs.Rises.{put-there}
 use Rattle.lg_rules.proofs.RowLaws.{rows_room}
 use Rattle.lg_rules.specs.Meaning.Claim.{name_of}
@@ -16,13 +16,13 @@ use Rattle.lg_membership.specs.Meaning.Log.{GroupLog, Said, config, me, own_fact
 use Rattle.lg_membership.specs.Meaning.Suspicions.{suspicions, suspected_name}
 use Rattle.lg_membership.specs.Meaning.Gossip.{version_sent, put_of_oneself, put_of_other, put_of_leave, put_by, queued, queue_rows, queue}
 use Rattle.lg_membership.specs.Support.Reached.{IsGroupReached}
-use Rattle.lg_membership.specs.Support.State.{GroupState, group_state_of, put_in, own_put_in}
+use Rattle.lg_membership.specs.Support.State.{GroupState, group_state_of, put_in, own_put_in, other_put_in}
 use Rattle.lg_membership.specs.Support.Room.{HasPlace, HasSeat, HasRoom, IsOrdered}
 use Rattle.lg_membership.proofs.FactLaws.{own_name}
 use Rattle.lg_membership.proofs.KnownLaws.{rises-known, length-known, own_known}
 use Rattle.lg_membership.proofs.SuspicionLaws.{seat_of, rises-suspicions}
-use Rattle.lg_membership.proofs.QueueLaws.{waits-log}
-use Rattle.lg_membership.proofs.QueuedLaws.{put_after, queued_keyed, put_by-grows, leave_name}
+use Rattle.lg_membership.proofs.QueueLaws.{own-waits, waits-log}
+use Rattle.lg_membership.proofs.QueuedLaws.{put_after, queued_keyed, put_by-own, put_by-other, put_by-grows, leave_name}
 
 -- what a claim puts is about a name that is known then, of which there are at most 256
 place_of : (origin : Origin) (log : GroupLog) (c p : Claim) → put_after origin log c ≡ Some p → row_at name_cmp queued_name p.name (queue_rows log) ≡ None → length (queue_rows log) < 256
@@ -37,10 +37,16 @@ has_place (Some p) log places = places p refl
 
 put_in-log : (origin : Origin) (log : GroupLog) (c : Claim) → put_in origin c (group_state_of log) ≡ put_after origin log c
 unfolding put_by
-put_in-log origin log c =
-    let put = put_of_other origin (forgets log) (table log) (suspicions log) c in
-    ap (λ n. cond (is_same name_cmp c.name n) (own_put_in c (group_state_of log)) put) (own_name log)
-    ∙ ap (λ w. cond (is_same name_cmp c.name (me log)) (put_of_oneself (version_sent (config log)) w (own log) c) put) (waits-log log)
+put_in-log origin log c = elim (cases_key names_order c.name (me log)) [
+  | inl same ↦
+      ap (λ b. cond b (own_put_in c (group_state_of log)) (other_put_in origin c (group_state_of log))) (same_key names_order c.name (own log).name (same ∙ sym (own_name log)))
+      ∙ ap (λ w. put_of_oneself (version_sent (config log)) w (own log) c) (own-waits log)
+      ∙ sym (put_by-own origin log c same)
+  | inr other ↦
+      ap (λ b. cond b (own_put_in c (group_state_of log)) (other_put_in origin c (group_state_of log))) (other_key names_order c.name (own log).name (λ e. other (e ∙ own_name log)))
+      ∙ ap (λ w. put_of_other (version_sent (config log)) w origin (forgets log) (table log) (suspicions log) c) (waits-log log c.name)
+      ∙ sym (put_by-other origin log c other)
+]
 
 -- so is what a leave puts
 place_left : (log : GroupLog) (p : Claim) → put_of_leave (own log) ≡ Some p → row_at name_cmp queued_name p.name (queue_rows log) ≡ None → length (queue_rows log) < 256
@@ -88,13 +94,13 @@ reached_room origin c s r = subst (HasRoom origin c) (sym r.is) (has_room origin
 pub own_place : (c : Claim) (s : GroupState) → IsGroupReached s → c.name ≡ s.own.name → HasPlace (own_put_in c s) s.queue
 own_place c s r same =
     let room = reached_room Group c s r in
-    subst (λ b. HasPlace (cond b (own_put_in c s) (put_of_other Group s.members.forgets s.members.table s.suspicions c)) s.queue)
+    subst (λ b. HasPlace (cond b (own_put_in c s) (other_put_in Group c s)) s.queue)
     (same_key names_order c.name s.own.name same) room.place
 
-pub other_place : (origin : Origin) (c : Claim) (s : GroupState) → IsGroupReached s → c.name ≢ s.own.name → HasPlace (put_of_other origin s.members.forgets s.members.table s.suspicions c) s.queue
+pub other_place : (origin : Origin) (c : Claim) (s : GroupState) → IsGroupReached s → c.name ≢ s.own.name → HasPlace (other_put_in origin c s) s.queue
 other_place origin c s r other =
     let room = reached_room origin c s r in
-    subst (λ b. HasPlace (cond b (own_put_in c s) (put_of_other origin s.members.forgets s.members.table s.suspicions c)) s.queue)
+    subst (λ b. HasPlace (cond b (own_put_in c s) (other_put_in origin c s)) s.queue)
     (other_key names_order c.name s.own.name other) room.place
 
 pub other_seat : (c : Claim) (s : GroupState) → IsGroupReached s → c.name ≢ s.own.name → takes s.members.forgets s.members.table c ≡ true → HasSeat suspected_name c.name s.suspicions

@@ -7,5 +7,6 @@ pub mod Pages
 pub mod Examples
 pub mod NewsExamples
 pub mod LeaveExamples
+pub mod RepeatExamples
 pub mod ForgetExamples
 pub mod PageExamples

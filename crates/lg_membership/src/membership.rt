@@ -6,7 +6,7 @@ ghost use Rattle.std.specs.Prelude.{◌≡◌, ◌≢◌, [], ◌∷◌, ◌&&�
 ghost use Rattle.lg_rules.specs.Meaning.Rows.{name_cmp, is_same};
 ghost use Rattle.lg_timing.specs.Meaning.Config.{IsChecked};
 ghost use Rattle.lg_membership.specs.Meaning.Log.{GroupFact, GroupLog, Opened, Said, Sent, Departed};
-ghost use Rattle.lg_membership.specs.Meaning.Gossip.{put_if, taken, fill};
+ghost use Rattle.lg_membership.specs.Meaning.Gossip.{put_if, counted_or, taken, fill};
 ghost use Rattle.lg_membership.specs.Meaning.Suspicions.{is_accusation};
 ghost use Rattle.lg_membership.specs.Meaning.Applied.{IsApplied, IsLeave};
 ghost use Rattle.lg_membership.specs.Support.State.{group_state_of, open_group, apply_to_group, apply_own, apply_other};
@@ -32,6 +32,7 @@ mod forgetting;
 mod oneself;
 mod pages;
 mod readers;
+mod repeating;
 
 pub use lg_rules::MAX_MEMBERS;
 
@@ -133,14 +134,21 @@ fn is_to_be_passed_on(heard: Heard, deadline: Deadline) -> bool
     }
 }
 
-/// What a claim about another member puts into the queue: the claim itself, if the group says it and it counts. It
-/// counts if it makes or replaces a record, or confirms a suspicion.
-fn put_of_other(origin: Origin, counts: bool, claim: &Claim) -> Option<Claim>
-    ensures { result ≡ put_if origin counts claim.now }
+/// What a claim about another member puts into the queue, if the group says it: the claim itself, if it counts, and
+/// else the record of a leave that is to be repeated, if there is one. A claim counts if it makes or replaces a record,
+/// or confirms a suspicion.
+fn put_of_other(
+    origin: Origin,
+    counts: bool,
+    claim: &Claim,
+    repeated: Option<Record>,
+) -> Option<Claim>
+    ensures { result ≡ put_if origin (counted_or counts claim.now repeated) }
 {
     match origin {
+        Origin::Seed => None,
         Origin::Group if counts => Some(*claim),
-        Origin::Group | Origin::Seed => None,
+        Origin::Group => repeated,
     }
 }
 
@@ -250,13 +258,17 @@ impl Membership {
         ensures applied { result ≡ applied_other now claim.now self.old }
     {
         let before = self.members.live();
+        let repeated = self.leave_to_repeat(claim);
         let heard = self.members.hear(claim);
         let presence = presence_by(before, self.members.live());
         let deadline = self
             .suspicions
             .suspect(&self.config, now, &self.members, heard, claim);
         let counts = is_to_be_passed_on(heard, deadline);
-        put(&mut self.queue, put_of_other(origin, counts, claim));
+        put(
+            &mut self.queue,
+            put_of_other(origin, counts, claim, repeated),
+        );
         Applied {
             changed: if_open(&self.config, taken_of_other(heard, claim)),
             refuted: false,

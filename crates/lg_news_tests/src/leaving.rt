@@ -1,5 +1,6 @@
 //! Leaves: whom they are told to, and what they drop.
 mod having_left;
+mod repeating;
 
 use crate::playing::{play_blank, resume_each};
 use lg_detector_testing::DetectorCase;

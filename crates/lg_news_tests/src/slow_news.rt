@@ -204,15 +204,25 @@ impl SlowNews {
             self.hear_own(claim);
             return;
         }
-        let is_news = match self.record_of(&claim.name) {
-            Some(record) => replaces(claim, &record),
-            None => true,
-        };
-        if is_news {
-            let name = claim.name;
-            self.records.retain(|record| record.name != name);
-            add(&mut self.records, claim);
-            self.queue.put(claim);
+        match self.record_of(&claim.name) {
+            Some(record) if !replaces(claim, &record) => self.repeat_leave(claim, &record),
+            _ => {
+                let name = claim.name;
+                self.records.retain(|record| record.name != name);
+                add(&mut self.records, claim);
+                self.queue.put(claim);
+            }
+        }
+    }
+
+    /// A claim is heard that replaces no record. If it suspects a member that left, the leave is told again.
+    fn repeat_leave(&mut self, claim: &Claim, record: &Record) {
+        if self.is_new()
+            && rank(&claim.status) == 1
+            && record.status == Status::Left
+            && !self.queue.has_news_of(&record.name, self.limit())
+        {
+            self.queue.put(record);
         }
     }
 

@@ -66,9 +66,29 @@ doubts oneself c =
 abbrev pub answers_doubt : Version → Bool → OwnValue → Claim → Bool
 answers_doubt v waits oneself c = tells_news v && (not oneself.left && (doubts oneself c && not waits))
 
--- What a claim puts into the queue when it is said. A claim about another member puts itself there if it makes or
--- replaces a record, or confirms a suspicion, unless the opening says it. A claim about this member puts this
--- member's own record there if it raises this member's incarnation, or if it is a doubt that is answered.
+-- The record of a member that left, if a claim suspects that member, in version 3, unless the queue still has a claim
+-- about the member to send. Whoever says such a claim hasn't heard of the leave.
+abbrev pub is_left : Status → Bool
+is_left Alive = false
+is_left (Suspect accuser) = false
+is_left Failed = false
+is_left Left = true
+
+abbrev pub record_if : (Status → Bool) → Option Claim → Option Claim
+record_if test None = None
+record_if test (Some r) = if test r.status then Some r else None
+
+abbrev pub leave_to_repeat : Version → Bool → List Claim → Claim → Option Claim
+leave_to_repeat v waits rows c =
+    if tells_news v && (is_suspect c.status && not waits)
+    then record_if is_left (row_at name_cmp name_of c.name rows)
+    else None
+
+-- What a claim puts into the queue when it is said, unless the opening says it. A claim about another member puts
+-- itself there if it makes or replaces a record, or confirms a suspicion; and else the record of the leave that is to
+-- be repeated, if there is one. A claim about this member puts this member's own record there if it raises this
+-- member's incarnation, or if it is a doubt that is answered. `waits` says whether the queue still has a claim about
+-- the claim's member to send.
 abbrev pub put_of_own : OwnHeard → OwnValue → Option Claim
 put_of_own Refuted oneself = Some (own_record oneself)
 put_of_own Raised oneself = Some (own_record oneself)
@@ -83,19 +103,23 @@ abbrev pub put_of_oneself : Version → Bool → OwnValue → Claim → Option C
 put_of_oneself v waits oneself c =
     put_if_answered (answers_doubt v waits oneself c) (own_hearing oneself c) (own_heard oneself c)
 
-abbrev pub put_if : Origin → Bool → Claim → Option Claim
-put_if Seed counts c = None
-put_if Group counts c = if counts then Some c else None
+abbrev pub put_if : Origin → Option Claim → Option Claim
+put_if Seed news = None
+put_if Group news = news
 
-abbrev pub put_of_other : Origin → Bool → List Claim → List SuspectedValue → Claim → Option Claim
-put_of_other origin forgetting rows suspects c =
-    put_if origin (takes forgetting rows c || confirms forgetting rows suspects c) c
+abbrev pub counted_or : Bool → Claim → Option Claim → Option Claim
+counted_or counts c repeated = if counts then Some c else repeated
+
+abbrev pub put_of_other : Version → Bool → Origin → Bool → List Claim → List SuspectedValue → Claim → Option Claim
+put_of_other v waits origin forgetting rows suspects c =
+    let counts = takes forgetting rows c || confirms forgetting rows suspects c in
+    put_if origin (counted_or counts c (leave_to_repeat v waits rows c))
 
 unfoldable pub put_by : Origin → Bool → GroupLog → Claim → Option Claim
 put_by origin waits log c =
     if is_same name_cmp c.name (me log)
     then put_of_oneself (version_sent (config log)) waits (own log) c
-    else put_of_other origin (forgets log) (table log) (suspicions log) c
+    else put_of_other (version_sent (config log)) waits origin (forgets log) (table log) (suspicions log) c
 
 -- What a leave puts into the queue: this member's own record, which is Left then. A further leave puts nothing.
 abbrev pub put_if_leaves : Bool → OwnValue → Option Claim
@@ -123,15 +147,15 @@ queued (Opened opening ∷ log) m =
     let v = version_of opening in
     queued_by v (own_arrival v (own_of opening.name opening.addr [])) m None
 queued (Said now origin c ∷ log) m =
-    let waits = is_below (send_limit_after log) (queued log (me log)) in
+    let waits = is_below (send_limit_after log) (queued log c.name) in
     queued_by (version_sent (config log)) (put_by origin waits log c) m (queued log m)
 queued (Sent taken ∷ log) m = option_map (sent_once taken) (queued log m)
 queued (Departed ∷ log) m = queued_by (version_sent (config log)) (put_of_leave (own log)) m (queued log m)
 queued (Forgot n ∷ log) m = if loses log n m then None else queued log m
 
--- whether the queue still has this member's own record to send
-abbrev pub own_waits : GroupLog → Bool
-own_waits log = is_below (send_limit_after log) (queued log (me log))
+-- whether the queue still has a claim about a member to send
+abbrev pub waits : GroupLog → List ℕ → Bool
+waits log m = is_below (send_limit_after log) (queued log m)
 
 -- the queue, in the order of names
 unfoldable pub queue_rows : GroupLog → List Queued
@@ -152,10 +176,6 @@ news log = has_news (queue log) (live log)
 -- Ping begins with the record of the member that it goes to, if that is Suspect. In version 3 an Ack begins with the
 -- record of the member that it goes to, if that is Suspect or Failed (this project's choice). A member that isn't
 -- known, or is this member itself, has no record here. Any other packet has no such member.
-abbrev pub record_if : (Status → Bool) → Option Claim → Option Claim
-record_if test None = None
-record_if test (Some r) = if test r.status then Some r else None
-
 abbrev pub buddy_record : Version → Addressee → List Claim → Option Claim
 buddy_record v Anybody rows = None
 buddy_record v (Pinged m) rows = record_if is_suspect (row_at name_cmp name_of m rows)

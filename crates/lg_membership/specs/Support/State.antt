@@ -22,7 +22,8 @@ use Rattle.lg_membership.specs.declared.origin.Origin.{Origin}
 use Rattle.lg_membership.specs.Meaning.Log.{GroupLog, config, me, own_facts, own, forgets, forgets_in}
 use Rattle.lg_membership.specs.Meaning.Log.{live_names, view_in}
 use Rattle.lg_membership.specs.Meaning.Suspicions.{SuspectedValue, suspicions, suspected_name}
-use Rattle.lg_membership.specs.Meaning.Gossip.{version_sent, own_arrival, answers_doubt, put_of_own, put_of_oneself}
+use Rattle.lg_membership.specs.Meaning.Gossip.{version_sent, own_arrival, answers_doubt, leave_to_repeat}
+use Rattle.lg_membership.specs.Meaning.Gossip.{put_of_own, put_of_oneself}
 use Rattle.lg_membership.specs.Meaning.Gossip.{put_of_other, put_of_leave, queue, buddy_record}
 use Rattle.lg_membership.specs.Meaning.Applied.{is_refuted}
 use Rattle.lg_membership.specs.Meaning.Pages.{is_in_page}
@@ -96,22 +97,27 @@ change_in now c s = change_of s.members.forgets s.config now s.members.table s.s
 abbrev pub own_hearing_in : Claim → GroupState → OwnHeard
 own_hearing_in c s = own_hearing s.own c
 
--- whether the queue still has this member's own record to send, and whether a claim is a doubt that is answered
-abbrev pub own_waits_in : GroupState → Bool
-own_waits_in s = may_send_about s.own.name s.queue (live_in s.members.table)
+-- whether the queue still has a claim about a member to send, and whether a claim is a doubt that is answered
+abbrev pub waits_in : List ℕ → GroupState → Bool
+waits_in m s = may_send_about m s.queue (live_in s.members.table)
 
 abbrev pub is_answered : Claim → GroupState → Bool
-is_answered c s = answers_doubt (version_sent s.config) (own_waits_in s) s.own c
+is_answered c s = answers_doubt (version_sent s.config) (waits_in s.own.name s) s.own c
+
+-- the leave that a claim about another lets this member repeat
+abbrev pub repeated_in : Claim → GroupState → Option Claim
+repeated_in c s = leave_to_repeat (version_sent s.config) (waits_in c.name s) s.members.table c
 
 -- what a claim about this member puts into the queue, and what any claim does
 abbrev pub own_put_in : Claim → GroupState → Option Claim
-own_put_in c s = put_of_oneself (version_sent s.config) (own_waits_in s) s.own c
+own_put_in c s = put_of_oneself (version_sent s.config) (waits_in s.own.name s) s.own c
+
+abbrev pub other_put_in : Origin → Claim → GroupState → Option Claim
+other_put_in origin c s =
+    put_of_other (version_sent s.config) (waits_in c.name s) origin s.members.forgets s.members.table s.suspicions c
 
 abbrev pub put_in : Origin → Claim → GroupState → Option Claim
-put_in origin c s =
-    if is_same name_cmp c.name s.own.name
-    then own_put_in c s
-    else put_of_other origin s.members.forgets s.members.table s.suspicions c
+put_in origin c s = if is_same name_cmp c.name s.own.name then own_put_in c s else other_put_in origin c s
 
 -- the state once a claim was applied
 abbrev pub apply_own : Claim → GroupState → GroupState
@@ -124,7 +130,7 @@ abbrev pub apply_other : ℕ → Origin → Claim → GroupState → GroupState
 apply_other now origin c s = record s {
   members = members_heard s.members c;
   suspicions = suspicions_after (change_in now c s) s.suspicions;
-  queue = queue_with (put_of_other origin s.members.forgets s.members.table s.suspicions c) s.queue;
+  queue = queue_with (other_put_in origin c s) s.queue;
 }
 
 unfoldable pub apply_to_group : ℕ → Origin → Claim → GroupState → GroupState

@@ -1,12 +1,12 @@
 use Rattle.std.proofs.Common.{◌≡◌, ◌≢◌, false, Option, ap, sym, subst, ◌∙◌}
 use Rattle.lg_rules.specs.declared.claim.Claim.{Claim}
 use Rattle.lg_rules.specs.Meaning.Table.{MembersValue, takes, heard, live_in}
-use Rattle.lg_membership.specs.Meaning.Gossip.{put_if}
+use Rattle.lg_membership.specs.Meaning.Gossip.{put_if, counted_or}
 use Rattle.lg_membership.specs.Support.Changes.{row_about, suspicions_after, deadline_of_change, is_override}
 use Rattle.lg_membership.specs.Support.Changes.{presence_by}
 use Rattle.lg_membership.specs.Support.Room.{HasPlace}
 use Rattle.lg_membership.specs.Support.Rows.{rows_by}
-use Rattle.lg_membership.specs.Support.State.{GroupState, queue_with, apply_other, applied_other, if_open, taken_if}
+use Rattle.lg_membership.specs.Support.State.{GroupState, queue_with, apply_other, applied_other, if_open, repeated_in, taken_if}
 use Rattle.lg_membership.proofs.Hearings.{override-takes, overrode-takes, counts_for}
 use Rattle.lg_membership.proofs.LiveOthers.{presence-counted}
 use Rattle.lg_membership.proofs.Reaching.{reached-other}
@@ -55,7 +55,8 @@ put-requires c =
     let row = row_about claim (rows_by names rows) in
     let counts = c.is_to_be_passed_on-counts.ensures
     ∙ counts_for inside.members.forgets table inside.config c.args.now n row claim hearing deadline in
-    let puts = c.put_of_other.ensures ∙ ap (λ b. put_if c.args.origin b claim) counts in
+    let repeated = c.leave_to_repeat-repeated.ensures ∙ ap (repeated_in claim) (sym c.self.view_is) in
+    let puts = c.put_of_other.ensures ∙ (λ i. put_if c.args.origin (counted_or (counts i) claim (repeated i))) in
     let other : claim.name ≢ inside.own.name = λ same.
     c.requires (same ∙ ap (λ (s : GroupState). s.own.name) c.self.view_is) in
     subst (λ (o : Option Claim). HasPlace o inside.queue) (sym puts)
@@ -93,7 +94,8 @@ state_is c =
     let row = row_about claim (rows_by names rows) in
     let counts = c.is_to_be_passed_on-counts.ensures
     ∙ counts_for inside.members.forgets table inside.config c.args.now n row claim hearing deadline in
-    let puts = c.put_of_other.ensures ∙ ap (λ b. put_if c.args.origin b claim) counts in
+    let repeated = c.leave_to_repeat-repeated.ensures ∙ ap (repeated_in claim) (sym c.self.view_is) in
+    let puts = c.put_of_other.ensures ∙ (λ i. put_if c.args.origin (counted_or (counts i) claim (repeated i))) in
     let queue = c.put.ensures ∙ ap (λ (o : Option Claim). queue_with o inside.queue) puts in
     λ i. record {
       config = inside.config;
