@@ -3,6 +3,7 @@
 Python's own reader of TOML says what a document is. It reads TOML 1.0. Where 1.1 allows more, this judge is unsure.
 """
 
+import hashlib
 import re
 import tomllib
 
@@ -17,7 +18,7 @@ TEXT_KEYS = ("name", "address", "key_file", "group")
 INTEGER_KEYS = ("port", "dice")
 # Of the node's own numbers: the least, the greatest, the default and the number of the fault.
 OWN_NUMBERS = {"pull_ms": (0, 3_600_000, 30_000, 16), "stall_ms": (0, 60_000, 100, 17)}
-DEFAULT_TEXTS = {"address": "127.0.0.1", "port": 7946, "dice": 1}
+DEFAULT_TEXTS = {"address": "127.0.0.1", "port": 7946}
 # The configuration's numbers that a file may have: all but the first number of a probe.
 FILE_NUMBERS = {key: row for key, row in NUMBERS.items() if key != "first"}
 KEYS = {*TEXT_KEYS, *INTEGER_KEYS, *FILE_NUMBERS, *OWN_NUMBERS, "seeds", "status", "status_open"}
@@ -147,6 +148,12 @@ def group_of(document):
     return group
 
 
+def own_dice(name, address, port):
+    """The number that the dice of a member start from if its file doesn't say it."""
+    digest = hashlib.sha256(name.encode() + b"\0" + bytes(address) + port.to_bytes(2, "big")).digest()
+    return int.from_bytes(digest[:8], "big") % 2**63
+
+
 def meaning_of(document):
     """The values of a document, defaults filled in, by their keys. Raises the first fault."""
     must(all(key in KEYS and is_of_type(key, value) for key, value in document.items()) and "name" in document, KEY)
@@ -154,7 +161,9 @@ def meaning_of(document):
     address = address_in(values["address"])
     seeds = [seed_in(it) for it in document.get("seeds", [])]
     must(is_name(values["name"].encode(errors="replace")) and address and 1 <= values["port"] <= 65535
-         and values["dice"] >= 0 and None not in seeds, VALUE)
+         and values.get("dice", 0) >= 0 and None not in seeds, VALUE)
+    values["own_dice"] = own_dice(values["name"], address, values["port"])
+    values.setdefault("dice", values["own_dice"])
     fault = fault_of(values, values["name"], [name for name, _ in seeds])
     must(fault is None or fault > KEY_FILE, fault)
     for key, (least, most, _, number) in OWN_NUMBERS.items():
@@ -174,7 +183,7 @@ def shown(values):
     texts = values | {"seeds": seeds or "none", "status": place_text(values["status"]) if values["status"] else "none",
                       "status_open": str(values["status_open"]).lower(), "key_file": values["key_file"] or "none",
                       "group": values["group"] or "none"}
-    defaults = DEFAULT_TEXTS | numbers_of({}) | {"seeds": "none", "status": "none", "status_open": "false"}
+    defaults = DEFAULT_TEXTS | {"dice": values["own_dice"]} | numbers_of({}) | {"seeds": "none", "status": "none", "status_open": "false"}
     defaults |= {key: "none" for key in ("key_file", "group") if not values[key]}
     lines = [f"{key} = {texts[key]}{' (default)' if texts[key] == defaults.get(key) else ''}" for key in order]
     for live in SHOWN_MEMBERS:

@@ -12,7 +12,7 @@ use crate::spelling::{
     group_spelled, ip_text, path_spelled, seeds_spelled, status_spelled, text_of_name,
     truth_spelled,
 };
-use lg_config::{DEFAULT_ADDRESS, DEFAULT_DICE, DEFAULT_PORT, FilePath, NodeConfig, NodeKey};
+use lg_config::{DEFAULT_ADDRESS, DEFAULT_PORT, FilePath, NodeConfig, NodeKey, own_dice};
 use lg_rules::{Addr, Name};
 use lg_timing::{Config, Key, MAX_LIVE, SuspicionTimeout, suspicion_ms};
 use std::alloc::{AllocError, Global};
@@ -65,7 +65,8 @@ pub(crate) fn put_start(
     let seeds = node.config.seeds.as_slice();
     let port = u64::from(node.config.addr.port);
     put_number("port", port, u64::from(DEFAULT_PORT), text)?;
-    put_number("dice", node.dice, DEFAULT_DICE, text)?;
+    let own = own_dice(&node.config.name, &node.config.addr);
+    put_number("dice", node.dice, own, text)?;
     let spelled = seeds_spelled(alloc, seeds)?;
     put_key("seeds", spelled.as_str(), seeds.is_empty(), text)
 }

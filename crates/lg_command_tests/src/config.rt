@@ -1,7 +1,5 @@
 //! What configuration files mean, value by value. The cases of the program show which files are faulty, and how.
-use lg_config::{
-    DEFAULT_ADDRESS, DEFAULT_DICE, DEFAULT_PORT, FileFault, MAX_FILE, NodeConfig, reason,
-};
+use lg_config::{DEFAULT_ADDRESS, DEFAULT_PORT, FileFault, MAX_FILE, NodeConfig, reason};
 use lg_rules::Addr;
 use lg_testing::name;
 
@@ -103,7 +101,7 @@ fn each_value(rt: HostRuntime) {
         text: "name = \"b\"",
         octets: [127, 0, 0, 1],
         port: 7946,
-        dice: 1,
+        dice: 2_189_494_717_179_526_441,
         own: [30_000, 100],
         numbers: USUAL,
         seeds: &[],
@@ -115,6 +113,7 @@ fn each_value(rt: HostRuntime) {
         alone,
         Row {
             text: "name = \"b\"\naddress = \"127.0.0.1\"\nport = 7946\ndice = 1\npull_ms = 30000\nstall_ms = 100",
+            dice: 1,
             ..alone
         },
         Row {
@@ -159,8 +158,8 @@ fn each_value(rt: HostRuntime) {
             "{row:?}"
         );
     }
-    let usual = (DEFAULT_ADDRESS, DEFAULT_PORT, DEFAULT_DICE, MAX_FILE);
-    assert!(rt; usual == ("127.0.0.1", 7946, 1, 65_536));
+    let usual = (DEFAULT_ADDRESS, DEFAULT_PORT, MAX_FILE);
+    assert!(rt; usual == ("127.0.0.1", 7946, 65_536));
 }
 
 /// A file that is no TOML is told with the line of its first fault, and what is wrong there. No contract says which.

@@ -1,5 +1,5 @@
 -- What settings mean, by those with the first of their seeds.
-use Rattle.std.proofs.Common.{◌≡◌, ℕ, ◌<◌, ◌≤◌, Bool, true, false, if◌then◌else◌, List, length, leb, nat_lt, Option, Some, None, option_and_then, option_map, Result, Ok, Err, IfOk, refl, ap, sym, ◌∙◌, arith}
+use Rattle.std.proofs.Common.{unwrap_or, ◌≡◌, ℕ, ◌<◌, ◌≤◌, Bool, true, false, if◌then◌else◌, List, length, leb, nat_lt, Option, Some, None, option_and_then, option_map, Result, Ok, Err, IfOk, refl, ap, sym, ◌∙◌, arith}
 use Rattle.std.proofs.lemmas.Bool.Decides.{nat_tests}
 use Rattle.std.proofs.lemmas.List.{take_all}
 use Rattle.std.proofs.lemmas.Option.{same_Some}
@@ -21,6 +21,7 @@ use Rattle.lg_config.specs.declared.node.NodeConfig.{NodeConfig}
 use Rattle.lg_config.specs.declared.node_keys.NodeKey.{NodeKey}
 use Rattle.lg_config.specs.declared.node_keys.NodeKey.TheVariants.{PullMs, StallMs}
 use Rattle.lg_config.specs.Meaning.Answer.{and_group, and_key_file, and_late, and_status, is_late, meaning_of, unless_broken, unless_config, unless_late, unless_node}
+use Rattle.lg_config.specs.Meaning.Dice.{own_dice}
 use Rattle.lg_config.specs.Meaning.Groups.{group_in, with_group}
 use Rattle.lg_config.specs.Meaning.KeyFiles.{key_file_in, with_key_file}
 use Rattle.lg_config.specs.Meaning.Keys.{are_right_keys}
@@ -62,8 +63,8 @@ settings-seeds : (m : Members) (node : NodeConfig) → settings_of m ≡ Some no
 unfolding settings_of
 settings-seeds m node is = go (name_in m) (addr_in m) (dice_in m) (seeds_of_items (seeds_at m)) is
   where
-    go : (name : Option (List ℕ)) (addr : Option Addr) (dice : Option ℕ) (seeds : Option (List Seed))
-        → option_and_then (λ n. option_and_then (λ a. option_and_then (λ d. option_and_then (λ ss. Some (let made : NodeConfig = record { config = with_seeds ss (with_numbers m (defaults n a)); dice = d; pull_ms = own_number_in PullMs m; stall_ms = own_number_in StallMs m; status = None; status_open = false; key_file = None } in made)) seeds) dice) addr) name ≡ Some node
+    go : (name : Option (List ℕ)) (addr : Option Addr) (dice : Option (Option ℕ)) (seeds : Option (List Seed))
+        → option_and_then (λ n. option_and_then (λ a. option_and_then (λ d. option_and_then (λ ss. Some (let made : NodeConfig = record { config = with_seeds ss (with_numbers m (defaults n a)); dice = unwrap_or d (own_dice n a); pull_ms = own_number_in PullMs m; stall_ms = own_number_in StallMs m; status = None; status_open = false; key_file = None } in made)) seeds) dice) addr) name ≡ Some node
         → seeds ≡ Some node.config.seeds.items
     go None addr dice seeds e = absurd cc
     go (Some n) None dice seeds e = absurd cc

@@ -1,6 +1,7 @@
 -- What is right: whoever wants to believe the contracts reads these.
 pub mod Answer
 pub mod Bounds
+pub mod Dice
 pub mod Examples
 pub mod Faults
 pub mod FormReasons

@@ -5,6 +5,7 @@
 //! (`Faults.antt`), `may_listen` (`Status.antt`) and `IsReason` (`Reasons.antt`).
 #![tactic(auto)]
 
+mod dice;
 mod document;
 mod fault;
 mod form_reasons;
@@ -26,6 +27,7 @@ mod status;
 mod status_reasons;
 mod texts;
 
+pub use dice::own_dice;
 pub use document::MAX_FILE;
 pub use fault::{FileFault, ReadFault};
 pub use key_file::{FilePath, MAX_PATH};
@@ -33,4 +35,4 @@ pub use keys::FILE_KEYS;
 pub use node::NodeConfig;
 pub use node_keys::{MAX_PULL_MS, MAX_STALL_MS, NODE_KEYS, NodeKey, NodeKeyRow};
 pub use reasons::reason;
-pub use settings::{DEFAULT_ADDRESS, DEFAULT_DICE, DEFAULT_PORT};
+pub use settings::{DEFAULT_ADDRESS, DEFAULT_PORT};

@@ -7,15 +7,13 @@ ghost use Rattle.toml.specs.View.{table_view};
 ghost use Rattle.lg_config.specs.Meaning.Ranges.{dice_reason, given_text, member_reason, most_allowed, own_reason};
 ghost use Rattle.lg_config.specs.Meaning.Ranges.{port_reason, range_reason, zero_words};
 
+use crate::dice::MAX_DICE;
 use crate::lookup::{integer_at, number_at};
 use crate::node_keys::NodeKey;
-use crate::settings::{DEFAULT_DICE, DEFAULT_PORT};
+use crate::settings::DEFAULT_PORT;
 use lg_timing::Key;
 use std::alloc::{AllocError, Global};
 use toml::Table;
-
-/// The greatest number that the dice start from: 9,223,372,036,854,775,807 (this project's choice).
-const MAX_DICE: u64 = i64::MAX as u64;
 
 /// What a key allows, and the number of a file that lacks it.
 #[derive(Clone, Copy, Debug)]
@@ -127,7 +125,8 @@ pub(crate) fn dice_reason(alloc: Global, table: &Table) -> Result<String, AllocE
     let allowed = Allowed {
         least: 0,
         most: MAX_DICE,
-        default: DEFAULT_DICE,
+        // Dice that aren't given aren't negative.
+        default: 0,
         off: false,
     };
     range_reason(alloc, "dice", allowed, table)

@@ -10,6 +10,7 @@ ghost use Rattle.lg_config.specs.Meaning.Settings.{octets_of_member, own_number_
 ghost use Rattle.lg_config.specs.Meaning.Settings.{with_keys, with_numbers};
 ghost use Rattle.lg_config.specs.Support.Reading.{with_first_seeds};
 
+use crate::dice::own_dice;
 use crate::keys::{FILE_KEYS, NAME};
 use crate::lookup::{integer_at, number_at, seeds_at, text_at};
 use crate::node::NodeConfig;
@@ -25,9 +26,6 @@ pub const DEFAULT_ADDRESS: &str = "127.0.0.1";
 
 /// The port of a member, if its file doesn't give one (this project's choice).
 pub const DEFAULT_PORT: u16 = 7946;
-
-/// The number that the dice start from, if the file doesn't give one (this project's choice).
-pub const DEFAULT_DICE: u64 = 1;
 
 /// The text of the member's name.
 pub(crate) fn name_text(table: &Table) -> &str
@@ -75,14 +73,14 @@ fn addr_at(table: &Table) -> Option<Addr>
     Some(Addr::v4(octets, port))
 }
 
-/// The number that the dice start from. None if it is negative.
+/// The number that the dice start from, if the table gives one. The outer None says that it is negative.
 #[tactic(auto, unfolding(crate::specs::Meaning::Settings::dice_in))]
-pub(crate) fn dice_at(table: &Table) -> Option<u64>
+pub(crate) fn dice_at(table: &Table) -> Option<Option<u64>>
     ensures { result ≡ dice_in (table_view table.now) }
 {
     match integer_at(table, "dice") {
-        Some(dice) => u64::try_from(dice).ok(),
-        None => Some(DEFAULT_DICE),
+        Some(dice) => Some(Some(u64::try_from(dice).ok()?)),
+        None => Some(None),
     }
 }
 
@@ -124,6 +122,7 @@ pub(crate) fn settings_in(table: &Table) -> Option<NodeConfig>
     let addr = addr_at(table)?;
     let dice = dice_at(table)?;
     let seeds = first_seeds(seeds_at(table))?;
+    let dice = dice.unwrap_or(own_dice(&name, &addr));
     let config = with_numbers(table, Config::new(name, addr));
     let config = Config { seeds, ..config };
     Some(NodeConfig {

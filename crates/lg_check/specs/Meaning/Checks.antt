@@ -13,7 +13,8 @@ use Rattle.lg_text.specs.Meaning.Lines.{newline}
 use Rattle.lg_text.specs.Meaning.Addresses.{ip_text}
 use Rattle.lg_config.specs.declared.node.NodeConfig.{NodeConfig}
 use Rattle.lg_config.specs.declared.node_keys.NodeKey.{NodeKey}
-use Rattle.lg_config.specs.Meaning.Bounds.{default_address, default_dice, default_port}
+use Rattle.lg_config.specs.Meaning.Bounds.{default_address, default_port}
+use Rattle.lg_config.specs.Meaning.Dice.{own_dice}
 use Rattle.lg_config.specs.Meaning.Keys.{file_keys}
 use Rattle.lg_config.specs.Meaning.NodeKeys.{node_key_name, node_keys, node_row_of, own_number}
 use Rattle.lg_check.specs.Meaning.Spelling.{group_spelled, path_spelled, seeds_spelled, status_spelled, truth_spelled}
@@ -40,7 +41,7 @@ address_lines c =
 abbrev pub start_lines : NodeConfig → List ℕ
 start_lines node =
     number_line (codes "port") node.config.addr.port default_port
-    ++ number_line (codes "dice") node.dice default_dice
+    ++ number_line (codes "dice") node.dice (own_dice node.config.name node.config.addr)
     ++ key_line (codes "seeds") (seeds_spelled node.config.seeds.items) (length node.config.seeds.items == 0)
 
 -- the line of a number of the member's, and of one of the node's own

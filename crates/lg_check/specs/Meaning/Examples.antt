@@ -8,8 +8,10 @@ use Rattle.lg_timing.specs.declared.keys.Key.TheVariants.{IntervalMs, TimeoutMs,
 use Rattle.lg_timing.specs.Meaning.Config.{defaults}
 use Rattle.lg_timing.specs.Meaning.Tables.{log10_of, ratio_of}
 use Rattle.lg_timing.specs.Meaning.Timeouts.{range_of, timeout_of}
+use Rattle.sha2.specs.Sha256.{compress, digest_bytes, first_words, hash_after, rounds, schedule, sha256}
 use Rattle.lg_config.specs.declared.node.NodeConfig.{NodeConfig}
 use Rattle.lg_config.specs.declared.node_keys.NodeKey.TheVariants.{PullMs, StallMs}
+use Rattle.lg_config.specs.Meaning.Dice.{own_dice}
 use Rattle.lg_check.specs.Meaning.Checks.{key_file_line, address_lines, group_line, member_line, own_line, server_lines}
 use Rattle.lg_check.specs.Meaning.Checks.{group_name_line, start_lines}
 use Rattle.lg_check.specs.Meaning.Spelling.{seeds_spelled}
@@ -30,7 +32,7 @@ abbrev usual : NodeConfig
 usual =
     record {
       config = b-by-default;
-      dice = 1;
+      dice = 2189494717179526441;
       pull_ms = 30000;
       stall_ms = 100;
       status = None;
@@ -70,8 +72,10 @@ other-address :
 unfolding on_checks
 other-address = refl
 
-start : start_lines usual ≡ codes "port = 7946 (default)\ndice = 1 (default)\nseeds = none (default)\n"
-unfolding on_checks
+start :
+    start_lines usual
+    ≡ codes "port = 7946 (default)\ndice = 2189494717179526441 (default)\nseeds = none (default)\n"
+unfolding on_checks own_dice sha256 first_words schedule rounds compress hash_after digest_bytes
 start = refl
 
 two-seeds :

@@ -32,6 +32,3 @@ default_address = codes "127.0.0.1"
 
 abbrev pub default_port : ℕ
 default_port = 7946
-
-abbrev pub default_dice : ℕ
-default_dice = 1

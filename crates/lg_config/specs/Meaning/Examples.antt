@@ -3,6 +3,7 @@ use Rattle.std.specs.Prelude.{⊤, ◌≡◌, ℕ, Bool, true, false, ◌++◌, 
 use Rattle.std.specs.Prelude.{Some, None, Result, Ok, Err}
 use Rattle.std.specs.List.{flat_map}
 use Rattle.std.specs.Str.{chars, is_utf8}
+use Rattle.sha2.specs.Sha256.{compress, digest_bytes, first_words, hash_after, rounds, schedule, sha256}
 use Rattle.toml.proofs.OnLiterals.{toml_on_literals}
 use Rattle.lg_rules.specs.declared.addr.Addr.{Addr}
 use Rattle.lg_rules.specs.declared.addr.Ip.TheVariants.{V4}
@@ -13,6 +14,7 @@ use Rattle.lg_config.specs.declared.fault.FileFault.{FileFault}
 use Rattle.lg_config.specs.declared.fault.FileFault.TheVariants as fault
 use Rattle.lg_config.specs.declared.node.NodeConfig.{NodeConfig}
 use Rattle.lg_config.specs.Meaning.Answer.{answer_of}
+use Rattle.lg_config.specs.Meaning.Dice.{own_dice}
 use Rattle.lg_config.specs.Meaning.KeyFiles.{path_of}
 use Rattle.lg_config.specs.Meaning.Keys.{file_key_named, kind_of_key}
 use Rattle.lg_config.specs.Meaning.Settings.{addr_in, dice_in, name_in, settings_of, with_numbers}
@@ -43,12 +45,12 @@ local port = record { ip = V4 (127 ∷ 0 ∷ 0 ∷ 1 ∷ []); port = port }
 abbrev pub b-by-default : Config
 b-by-default = defaults (98 ∷ []) (local 7946)
 
--- a file that means this configuration, with the default dice
+-- a file that means this configuration, with dice of its own
 abbrev pub means : Config → Result NodeConfig FileFault
 means config =
     Ok record {
       config = config;
-      dice = 1;
+      dice = own_dice config.name config.addr;
       pull_ms = 30000;
       stall_ms = 100;
       status = None;
@@ -61,6 +63,11 @@ means config =
 name-alone : answer_of (codes "name = \"b\"") ≡ means b-by-default
 unfolding on_files
 name-alone = refl
+
+-- the dice of b's own
+own-dice : own_dice (98 ∷ []) (local 7946) ≡ 2189494717179526441
+unfolding own_dice sha256 first_words schedule rounds compress hash_after digest_bytes
+own-dice = refl
 
 -- lines of all the other keys
 abbrev addressed : List ℕ
@@ -261,7 +268,7 @@ abbrev b-at : Addr → Bool → Result NodeConfig FileFault
 b-at addr is_open =
     Ok record {
       config = b-by-default;
-      dice = 1;
+      dice = own_dice (98 ∷ []) (local 7946);
       pull_ms = 30000;
       stall_ms = 100;
       status = Some addr;
@@ -291,7 +298,7 @@ open-alone :
     answer_of (b-with (codes "status_open = true"))
     ≡ Ok record {
       config = b-by-default;
-      dice = 1;
+      dice = own_dice (98 ∷ []) (local 7946);
       pull_ms = 30000;
       stall_ms = 100;
       status = None;
@@ -344,7 +351,7 @@ open-before-loopback = refl
 keyed : answer_of (b-with (codes "key_file = \"group.key\""))
     ≡ Ok record {
       config = b-by-default;
-      dice = 1;
+      dice = own_dice (98 ∷ []) (local 7946);
       pull_ms = 30000;
       stall_ms = 100;
       status = None;

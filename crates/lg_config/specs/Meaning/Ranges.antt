@@ -9,7 +9,7 @@ use Rattle.lg_timing.specs.declared.keys.Key.{Key}
 use Rattle.lg_timing.specs.declared.keys.Key.TheVariants.{IntervalMs, TimeoutMs}
 use Rattle.lg_config.specs.declared.node_keys.NodeKey.{NodeKey}
 use Rattle.lg_config.specs.declared.ranges.Allowed.{Allowed}
-use Rattle.lg_config.specs.Meaning.Bounds.{default_dice, default_port, most_dice}
+use Rattle.lg_config.specs.Meaning.Bounds.{default_port, most_dice}
 use Rattle.lg_config.specs.Meaning.NodeKeys.{node_key_name, node_row_of}
 use Rattle.lg_config.specs.Meaning.Settings.{integer_at, number_at_key}
 
@@ -54,7 +54,8 @@ port_reason members =
     let allowed : Allowed = record { least = least_port; most = most_port; default = default_port; off = false } in
     range_reason (codes "port") allowed members
 
+-- of dice that are negative, so they are given, and there is no default
 abbrev pub dice_reason : Members → List ℕ
 dice_reason members =
-    let allowed : Allowed = record { least = 0; most = most_dice; default = default_dice; off = false } in
+    let allowed : Allowed = record { least = 0; most = most_dice; default = 0; off = false } in
     range_reason (codes "dice") allowed members

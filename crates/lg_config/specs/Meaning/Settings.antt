@@ -13,7 +13,8 @@ use Rattle.lg_timing.specs.declared.keys.Key.{Key}
 use Rattle.lg_config.specs.declared.node.NodeConfig.{NodeConfig}
 use Rattle.lg_config.specs.declared.node_keys.NodeKey.{NodeKey}
 use Rattle.lg_config.specs.declared.node_keys.NodeKey.TheVariants.{PullMs, StallMs}
-use Rattle.lg_config.specs.Meaning.Bounds.{out_of_range, default_address, default_port, default_dice}
+use Rattle.lg_config.specs.Meaning.Bounds.{out_of_range, default_address, default_port}
+use Rattle.lg_config.specs.Meaning.Dice.{own_dice}
 use Rattle.lg_config.specs.Meaning.Keys.{file_keys, texts_key}
 use Rattle.lg_config.specs.Meaning.NodeKeys.{node_key_name, node_row_of}
 use Rattle.lg_config.specs.Meaning.Texts.{◌>>=◌, port_among, octets_of, member_name_of, seed_of_text}
@@ -80,9 +81,13 @@ abbrev pub unless_negative : ℤ → Option ℕ
 unless_negative (pos n) = Some n
 unless_negative (negsuc n) = None
 
--- the number that the dice start from
-unfoldable pub dice_in : Members → Option ℕ
-dice_in members = unless_negative (unwrap_or (integer_at (codes "dice") members) (pos default_dice))
+-- the number that the dice start from, if a document says it; it has to be one that isn't negative
+abbrev pub dice_of : Option ℤ → Option (Option ℕ)
+dice_of None = Some None
+dice_of (Some given) = option_map (λ number. Some number) (unless_negative given)
+
+unfoldable pub dice_in : Members → Option (Option ℕ)
+dice_in members = dice_of (integer_at (codes "dice") members)
 
 -- a configuration with the number that a document gives for a key, and with its own number if the key is missing
 abbrev pub with_key : Key → Members → Config → Config
@@ -115,7 +120,7 @@ settings_of members = do
   seeds ← seeds_of_items (seeds_at members)
   Some record {
     config = with_seeds seeds (with_numbers members (defaults name addr));
-    dice = dice;
+    dice = unwrap_or dice (own_dice name addr);
     pull_ms = own_number_in PullMs members;
     stall_ms = own_number_in StallMs members;
     status = None;

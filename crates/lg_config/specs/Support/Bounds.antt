@@ -3,9 +3,9 @@ use Rattle.std.specs.Prelude.{◌≡◌, refl}
 use Rattle.lg_config.specs.declared.document.TheConstants.{MAX_FILE}
 use Rattle.lg_config.specs.declared.key_file.TheConstants.{MAX_PATH}
 use Rattle.lg_config.specs.declared.node_keys.TheConstants.{MAX_PULL_MS, MAX_STALL_MS}
-use Rattle.lg_config.specs.declared.settings.TheConstants.{DEFAULT_PORT, DEFAULT_DICE}
+use Rattle.lg_config.specs.declared.settings.TheConstants.{DEFAULT_PORT}
 use Rattle.lg_config.specs.Meaning.Bounds.{most_bytes, most_path_bytes, most_pull_ms, most_stall_ms}
-use Rattle.lg_config.specs.Meaning.Bounds.{default_port, default_dice}
+use Rattle.lg_config.specs.Meaning.Bounds.{default_port}
 
 most_bytes-is : MAX_FILE ≡ most_bytes
 most_bytes-is = refl
@@ -21,6 +21,3 @@ most_stall_ms-is = refl
 
 default_port-is : DEFAULT_PORT ≡ default_port
 default_port-is = refl
-
-default_dice-is : DEFAULT_DICE ≡ default_dice
-default_dice-is = refl
