@@ -19,8 +19,8 @@ use std::alloc::Global;
 use std::marker::Model;
 use std::sync::{Mutex, MutexGuard, Wait};
 
-/// What a pass leaves: the name of its agent, its seat, its reader, and the positions of its answered calls in the
-/// history.
+/// What a pass keeps, and leaves when it is finished: the name of its agent, its seat, its reader, and the positions of
+/// its answered calls in the history.
 #[derive(Drop)]
 pub struct Spent<A: AgentName> {
     pub(crate) name: Name,
@@ -40,7 +40,7 @@ impl<A: AgentName> Model for Spent<A> {
 
     ghost view = { λ s. record { name = s.name; seat = s.seat; seen = s.look; gone = s.gone; mine = s.mine.items } };
 
-    // It has seen the opening, and all its calls. Its seat is one of the agent's.
+    // It has seen the opening, and all its calls, which are fewer than these events. Its seat is one of the agent's.
     ghost invariant = { λ s. (begins_open s.look ≡ true)
         × All (λ k. k < length s.look) s.mine.items
         × (s.gone + length s.mine.items < length s.look)
@@ -81,12 +81,12 @@ impl<A: AgentName> Spent<A> {
     pub fn made(&self) -> u64
         ensures { result ≡ self.now.gone + length self.now.mine }
     {
-        // What was seen is an accepted list.
+        // For the proof: by its contract what was seen is an accepted list, which isn't longer than the sum may be.
         let _seen = self.look.seen();
         self.gone + self.mine.len() as u64
     }
 
-    /// The positions of its other answered calls in the history, in order.
+    /// The positions of its answered calls in the history, in order, without the first [`gone`](Spent::gone) ones.
     pub fn calls(&self) -> &[u64]
         ensures { result.now ≡ self.now.mine }
     {
@@ -150,13 +150,13 @@ impl<A: AgentName> Spent<A> {
         ensures few { result.1 ≤ length self.now.mine }
         ensures calls { result.0 ≡ self.now.gone + result.1 }
     {
-        // What was seen is an accepted list.
+        // For the proof, as in `made`.
         let _seen = self.look.seen();
         let moved = below(base, self.mine.as_slice());
         (self.gone + moved as u64, moved)
     }
 
-    /// Rotates, under the lock, which is taken once.
+    /// Rotates, under the lock, which is taken once. Returns how many entries were cut off.
     pub(crate) fn rotate<R: Wait>(
         &mut self,
         kept: &Mutex<Kept<A>>,
@@ -172,7 +172,8 @@ impl<A: AgentName> Spent<A> {
         answer
     }
 
-    /// Rotates the value under the lock. If it is refused, neither the pass nor the value has changed.
+    /// Rotates the value under the lock, and returns how many entries were cut off. If it is refused, neither the pass
+    /// nor the value has changed.
     fn rotate_in(&mut self, kept: &mut Kept<A>, alloc: Global) -> Result<u64, Refusal>
         ensures pass { IfOk result (λ _. IsRotatedPass self.old self.new) }
         ensures history { IfOk result (λ n. (n ≡ length kept.old.history) × IsRotated kept.old kept.new) }
@@ -180,7 +181,7 @@ impl<A: AgentName> Spent<A> {
     {
         let answer = kept.rotate(alloc);
         if answer.is_ok() {
-            // What was seen is an accepted list.
+            // For the proof, as in `made`.
             let _seen = self.look.seen();
             let moved = cut_positions(kept.base(), &mut self.mine);
             self.gone += moved as u64;

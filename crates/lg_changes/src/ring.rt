@@ -28,7 +28,7 @@ pub struct Changes {
     lost: u64,
 }
 
-/// Puts a change behind the others, if there is room for it without an allocation.
+/// Appends a change. If there is room for it, as the caller sees to, nothing is allocated.
 fn push(rows: &mut VecDeque<Change>, change: &Change)
     ensures items { deque_len rows.old < deque_capacity rows.old → rows.new.items ≡ rows.old.items ++ change.now ∷ [] }
     ensures len { deque_len rows.old < deque_capacity rows.old → deque_len rows.new ≡ deque_len rows.old + 1 }
@@ -52,6 +52,7 @@ fn push(rows: &mut VecDeque<Change>, change: &Change)
         }),
         Altered::Forgotten(name) => Altered::Forgotten(name),
     };
+    // If there is room, this isn't refused.
     let _ = rows.push_back(Change {
         version: change.version,
         moment: change.moment,
@@ -83,8 +84,9 @@ impl Changes {
         }
     }
 
-    /// Keeps a change for each of these records, in their order: they changed at a moment, and then there were so many
-    /// events. If there are more than [`MAX_CHANGES`] changes, the oldest are dropped. Allocates nothing.
+    /// Keeps a change for each of these records, in their order. By then there were `version` events, and `moment` was
+    /// the greatest moment handed in. If there are more than [`MAX_CHANGES`] changes, the oldest are dropped. Allocates
+    /// nothing.
     pub fn keep_changed(&mut self, version: u64, moment: Moment, members: &[Record])
         ensures { (all : List Changed) → KeepsNewest self.old all
             → KeepsNewest self.new (all ++ map (recorded_at version moment) members.now) }
@@ -98,8 +100,9 @@ impl Changes {
         }
     }
 
-    /// Keeps a change for each of these names, in their order: their members were forgotten at a moment, and then there
-    /// were so many events. If there are more than [`MAX_CHANGES`] changes, the oldest are dropped. Allocates nothing.
+    /// Keeps a change for each of these names of forgotten members, in their order. By then there were `version`
+    /// events, and `moment` was the greatest moment handed in. If there are more than [`MAX_CHANGES`] changes, the
+    /// oldest are dropped. Allocates nothing.
     pub fn keep_forgotten(&mut self, version: u64, moment: Moment, names: &[Name])
         ensures { (all : List Changed) → KeepsNewest self.old all
             → KeepsNewest self.new (all ++ map (forgotten_at version moment) names.now) }
@@ -113,8 +116,7 @@ impl Changes {
         }
     }
 
-    /// The version of the newest change, or 0 if there is none. A request for the changes behind a version has some to
-    /// get if this is greater.
+    /// The version of the newest change, or 0 if there is none. There are changes behind a version if this is greater.
     pub fn last_version(&self) -> u64
         ensures { (all : List Changed) → KeepsNewest self.now all → result ≡ last_version all }
     {
