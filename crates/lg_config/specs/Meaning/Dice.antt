@@ -1,5 +1,5 @@
--- The number that a node's dice start from if its file doesn't say it (this project's choice). Each member has one of its
--- own, so that members which start at one moment don't choose alike.
+-- The number that a node's dice start from if its file doesn't say it (this project's choice). Each member has one of
+-- its own, so that members which start at one moment don't choose alike.
 use Rattle.std.specs.Prelude.{ℕ, ◌%◌, ◌^◌, List, ◌∷◌, ◌++◌, take}
 use Rattle.std.specs.Int.{w16, w64, from_be_bytes, to_be_bytes}
 use Rattle.sha2.specs.Sha256.{sha256}

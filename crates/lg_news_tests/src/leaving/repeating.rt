@@ -2,7 +2,7 @@
 use super::A;
 use crate::playing::{play_blank, resume_each};
 use lg_detector_testing::DetectorCase;
-use lg_detector_testing::Happens::{First, FromIn, Leave, Opens, Tick};
+use lg_detector_testing::Happens::{self, First, FromIn, Leave, Opens, Tick};
 use lg_detector_testing::Setting::{GossipMs, Lambda, Own, Seed, Wire};
 use lg_detector_testing::Step::{Changed, Known, Replies, SentIn, Takes};
 use lg_packet::Version::{Three, Two};
@@ -16,22 +16,25 @@ const C_LEFT: &[Said] = &[LeftAt("c", 2, 7003)];
 /// A suspicion of c, which a raised.
 const C_SUSPECTED: &[Said] = &[SuspectAt("c", 2, "a", 7003)];
 
+/// b, which knows a and c, sends each claim once, and gossips no news.
+const B_OPENS: Happens<'static> = Opens(
+    0,
+    &[
+        Own("b", 7002),
+        Wire(3),
+        GossipMs(0),
+        Lambda(1),
+        Seed("a", 7001),
+        Seed("c", 7003),
+    ],
+);
+
 /// b tells of itself, and that c left, once each. When a suspects c at the leave's incarnation or a smaller one, the
 /// Ack has the leave again, but not twice. No other claim about c does so, nor one that replaces the leave.
 const TELLS_AGAIN: DetectorCase = (
     "tells of a leave again",
     &[
-        Takes(Opens(
-            0,
-            &[
-                Own("b", 7002),
-                Wire(3),
-                GossipMs(0),
-                Lambda(1),
-                Seed("a", 7001),
-                Seed("c", 7003),
-            ],
-        )),
+        Takes(B_OPENS),
         Takes(FromIn(1, Three, "a", 7001, Gossip, C_LEFT)),
         Changed(C_LEFT),
         Takes(FromIn(2, Three, "a", 7001, Ping(1, "b"), &[])),
@@ -132,17 +135,7 @@ const NOT_IN_TWO: DetectorCase = (
 const NOT_A_FAILURE: DetectorCase = (
     "tells of no failure again",
     &[
-        Takes(Opens(
-            0,
-            &[
-                Own("b", 7002),
-                Wire(3),
-                GossipMs(0),
-                Lambda(1),
-                Seed("a", 7001),
-                Seed("c", 7003),
-            ],
-        )),
+        Takes(B_OPENS),
         Takes(FromIn(1, Three, "a", 7001, Gossip, &[FailedAt("c", 2, 7003)])),
         Takes(FromIn(2, Three, "a", 7001, Ping(1, "b"), &[])),
         SentIn(
