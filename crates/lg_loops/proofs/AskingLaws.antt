@@ -11,10 +11,10 @@ use Rattle.lg_detector.specs.declared.event.Event.TheVariants as events
 use Rattle.lg_agent.specs.declared.receipt.Receipt.{Receipt}
 use Rattle.lg_agent.specs.Meaning.Values.{PassValue}
 use Rattle.lg_agent.specs.Meaning.Calls.{IsCall}
-use Rattle.lg_loops.specs.Meaning.Links.{WereHanded}
-use Rattle.lg_loops.specs.Meaning.Asking.{Asked}
-use Rattle.lg_loops.specs.Meaning.Turns.{Turn, LinkValue, is_pull, peers_in, losses}
-use Rattle.lg_loops.specs.Meaning.Turns.Turn.{Pulled}
+use Rattle.lg_turns.specs.Meaning.Links.{WereHanded}
+use Rattle.lg_turns.specs.Meaning.Asking.{Asked}
+use Rattle.lg_turns.specs.Meaning.Turns.{Turn, LinkValue, is_pull, peers_in, losses}
+use Rattle.lg_turns.specs.Meaning.Turns.Turn.{Pulled}
 use Rattle.lg_loops.proofs.TurnLaws.{made_more}
 
 pub asked_none : (tells : Bool) (a : LinkValue) (p : PassValue) → Asked tells [] a a p p 0

@@ -5,11 +5,11 @@ use Rattle.std.proofs.lemmas.List.Elements.{All-nil, All-append}
 use Rattle.std.proofs.lemmas.List.Sums.{sum_by-append}
 use Rattle.std.proofs.lemmas.List.Concat.{flat_map-append}
 use Rattle.lg_agent.specs.Meaning.Values.{PassValue}
-use Rattle.lg_loops.specs.Meaning.Links.{LinkEvent}
-use Rattle.lg_loops.specs.declared.ending.LoopEnd.{LoopEnd}
-use Rattle.lg_loops.specs.declared.ending.Why.{Why}
-use Rattle.lg_loops.specs.declared.ending.Why.TheVariants.{ReadBound}
-use Rattle.lg_loops.specs.Meaning.Turns.{Turn, deeds, breaks, goes_on, Follows, LinkValue, Made, Ends, Ran, Lasted}
+use Rattle.lg_turns.specs.Meaning.Links.{LinkEvent}
+use Rattle.lg_turns.specs.declared.ending.LoopEnd.{LoopEnd}
+use Rattle.lg_turns.specs.declared.ending.Why.{Why}
+use Rattle.lg_turns.specs.declared.ending.Why.TheVariants.{ReadBound}
+use Rattle.lg_turns.specs.Meaning.Turns.{Turn, deeds, breaks, goes_on, Follows, LinkValue, Made, Ends, Ran, Lasted}
 
 pub follows_join : (p m q : PassValue) (ts us : List Turn) → Follows p ts m → Follows m us q → Follows p (ts ++ us) q
 follows_join p m q [] us before after = subst (λ (o : PassValue). Follows o us q) before after

@@ -3,13 +3,13 @@ use Rattle.std.proofs.Common.{◌≡◌, ℕ, Bool, true, false, List, [], ◌�
 use Rattle.std.proofs.Math.Nat.{zero-min}
 use Rattle.std.proofs.lemmas.List.Elements.{All-nil, All-cons}
 use Rattle.lg_rules.specs.declared.addr.Addr.{Addr}
-use Rattle.lg_loops.specs.declared.ending.Why.{Why}
-use Rattle.lg_loops.specs.declared.ending.Why.TheVariants.{Stopped, Ousted, LinkFailed, Refused, ReadBound}
-use Rattle.lg_loops.specs.declared.plan.Plan.{Plan}
-use Rattle.lg_loops.specs.Meaning.Turns.{Turn}
-use Rattle.lg_loops.specs.Meaning.Turns.Turn.{Quiet, Broken, Dropped, Heard, Unheard, Paused, Ticked, Unticked, Unseen, AskedSeed, UnaskedSeed, AskedInTurn, UnaskedInTurn, Looked, Unlooked, AskedMember, UnaskedMember, FoundNobody, Unfound, Departed, Undeparted, Pulled}
-use Rattle.lg_loops.specs.Meaning.Leaving.{departs, next_plan, plan_after, HasLeft, HasLeftIf, leaves_at, Stays}
-use Rattle.lg_loops.specs.Meaning.Pulling.{waiting, waiting_from, asking_distance}
+use Rattle.lg_turns.specs.declared.ending.Why.{Why}
+use Rattle.lg_turns.specs.declared.ending.Why.TheVariants.{Stopped, Ousted, LinkFailed, Refused, ReadBound}
+use Rattle.lg_turns.specs.declared.plan.Plan.{Plan}
+use Rattle.lg_turns.specs.Meaning.Turns.{Turn}
+use Rattle.lg_turns.specs.Meaning.Turns.Turn.{Quiet, Broken, Dropped, Heard, Unheard, Paused, Ticked, Unticked, Unseen, AskedSeed, UnaskedSeed, AskedInTurn, UnaskedInTurn, Looked, Unlooked, AskedMember, UnaskedMember, FoundNobody, Unfound, Departed, Undeparted, Pulled}
+use Rattle.lg_turns.specs.Meaning.Leaving.{departs, next_plan, plan_after, HasLeft, HasLeftIf, leaves_at, Stays}
+use Rattle.lg_turns.specs.Meaning.Pulling.{waiting, waiting_from, asking_distance}
 use Rattle.lg_loops.proofs.TurnLaws.{is_of_turn}
 
 pub plan_more : (plan : Plan) (turns : List Turn) (t : Turn) → plan_after plan (turns ++ t ∷ []) ≡ next_plan (plan_after plan turns) t

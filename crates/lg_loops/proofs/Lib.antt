@@ -1,5 +1,4 @@
 pub mod AskingLaws
-pub mod KeyedLaws
 pub mod LastingLaws
 pub mod LeavingLaws
 pub mod PullingLaws
@@ -8,4 +7,3 @@ pub mod SendingLaws
 pub mod StretchLaws
 pub mod TurnLaws
 pub mod UnderwayLaws
-pub mod WordLaws

@@ -12,11 +12,11 @@ use Rattle.lg_timing.specs.declared.config.Seed.{Seed}
 use Rattle.lg_detector.specs.declared.event.Event.{Event}
 use Rattle.lg_agent.specs.declared.receipt.Receipt.{Receipt}
 use Rattle.lg_loops.specs.declared.agenda.Agenda.{Agenda}
-use Rattle.lg_loops.specs.declared.plan.Plan.{Plan}
-use Rattle.lg_loops.specs.Meaning.Turns.{Turn}
-use Rattle.lg_loops.specs.Meaning.Turns.Turn.{Looked, Unlooked, Departed}
-use Rattle.lg_loops.specs.Meaning.Leaving.{lingering}
-use Rattle.lg_loops.specs.Meaning.Pulling.{addrs, looks_in, last_moment, askings, askings_from, askings_after, seed_turns, waiting, waiting_from, look_ms, AreTimely, IsFirstWaiting, IsLookTime, IsAskingTime, IsIdleTime, MayAskMember, MayAskInTurn}
+use Rattle.lg_turns.specs.declared.plan.Plan.{Plan}
+use Rattle.lg_turns.specs.Meaning.Turns.{Turn}
+use Rattle.lg_turns.specs.Meaning.Turns.Turn.{Looked, Unlooked, Departed}
+use Rattle.lg_turns.specs.Meaning.Leaving.{lingering}
+use Rattle.lg_turns.specs.Meaning.Pulling.{addrs, looks_in, last_moment, askings, askings_from, askings_after, seed_turns, waiting, waiting_from, look_ms, AreTimely, IsFirstWaiting, IsLookTime, IsAskingTime, IsIdleTime, MayAskMember, MayAskInTurn}
 use Rattle.lg_loops.specs.Support.Acted.{IsAgenda, IsAsking, IsNextAgenda, IsAskingDue, IsSeedNext, IsMemberNext, IsNoLook, IsNoAsking, agenda_at, waiting_by}
 use Rattle.lg_loops.proofs.LeavingLaws.{none_ever, no_distance}
 

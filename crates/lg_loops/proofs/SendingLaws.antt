@@ -4,9 +4,9 @@ use Rattle.std.specs.Prelude.{Result, Ok, Err, is_ok, is_err, OnOk, OnErr}
 use Rattle.std.proofs.lemmas.List.Sums.{sum_by-append}
 use Rattle.lg_packet.specs.Meaning.Spelling.{spelling}
 use Rattle.lg_detector.specs.declared.reply.Outgoing.{Outgoing}
-use Rattle.lg_loops.specs.declared.link.LinkFault.{LinkFault}
-use Rattle.lg_loops.specs.Meaning.Links.{LinkEvent, handed, lost, WereHanded}
-use Rattle.lg_loops.specs.Meaning.Links.LinkEvent.{Handed}
+use Rattle.lg_turns.specs.declared.link.LinkFault.{LinkFault}
+use Rattle.lg_turns.specs.Meaning.Links.{LinkEvent, handed, lost, WereHanded}
+use Rattle.lg_turns.specs.Meaning.Links.LinkEvent.{Handed}
 
 pub handed-append : (sends : List Outgoing) (sent : List Bool) (o : Outgoing) (b : Bool) → length sent ≡ length sends
     → handed (sends ++ o ∷ []) (sent ++ b ∷ []) ≡ handed sends sent ++ Handed o.to (spelling o.packet) b ∷ []

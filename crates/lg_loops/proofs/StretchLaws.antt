@@ -4,14 +4,14 @@ use Rattle.std.specs.Prelude.{Some, None}
 use Rattle.std.specs.List.{flat_map}
 use Rattle.lg_agent.specs.Meaning.Values.{PassValue}
 use Rattle.lg_loops.specs.declared.agenda.Agenda.{Agenda}
-use Rattle.lg_loops.specs.declared.ending.Why.{Why}
-use Rattle.lg_loops.specs.declared.ending.Why.TheVariants.{Stopped, ReadBound}
-use Rattle.lg_loops.specs.declared.plan.Plan.{Plan}
+use Rattle.lg_turns.specs.declared.ending.Why.{Why}
+use Rattle.lg_turns.specs.declared.ending.Why.TheVariants.{Stopped, ReadBound}
+use Rattle.lg_turns.specs.declared.plan.Plan.{Plan}
 use Rattle.lg_loops.specs.declared.stretch.Stretch.{Stretch}
 use Rattle.lg_loops.specs.declared.turned.Turned.{Turned}
-use Rattle.lg_loops.specs.Meaning.Turns.{Turn, LinkValue, Threw, is_of_ticking, words_in}
-use Rattle.lg_loops.specs.Meaning.Leaving.{next_plan, plan_after}
-use Rattle.lg_loops.specs.Meaning.Pulling.{AreTimely, IsTimely, Ticking}
+use Rattle.lg_turns.specs.Meaning.Turns.{Turn, LinkValue, Threw, is_of_ticking, words_in}
+use Rattle.lg_turns.specs.Meaning.Leaving.{next_plan, plan_after}
+use Rattle.lg_turns.specs.Meaning.Pulling.{AreTimely, IsTimely, Ticking}
 use Rattle.lg_loops.specs.Support.Acted.{Acted, IsAgenda}
 use Rattle.lg_loops.proofs.LeavingLaws.{plan_more, has_left, at_no_turn}
 use Rattle.lg_loops.proofs.TurnLaws.{none_yet, on, over, of_turn, stopped, bounded, threw_more}

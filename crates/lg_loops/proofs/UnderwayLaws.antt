@@ -2,11 +2,11 @@
 use Rattle.std.proofs.Common.{◌≡◌, ℕ, ◌+◌, Bool, true, false, refl, ◌∙◌}
 use Rattle.std.specs.Prelude.{Some, None}
 use Rattle.lg_agent.specs.Meaning.Values.{PassValue}
-use Rattle.lg_loops.specs.declared.ending.Why.{Why}
-use Rattle.lg_loops.specs.declared.ending.Why.TheVariants.{Stopped, ReadBound}
+use Rattle.lg_turns.specs.declared.ending.Why.{Why}
+use Rattle.lg_turns.specs.declared.ending.Why.TheVariants.{Stopped, ReadBound}
 use Rattle.lg_loops.specs.declared.stretch.Stretch.{Stretch}
 use Rattle.lg_loops.specs.declared.turned.Turned.{Turned}
-use Rattle.lg_loops.specs.Meaning.Turns.{Turn, LinkValue, Lasted}
+use Rattle.lg_turns.specs.Meaning.Turns.{Turn, LinkValue, Lasted}
 use Rattle.lg_loops.specs.Support.Took.{Took}
 use Rattle.lg_loops.proofs.TurnLaws.{Going, none_yet, on, over, stopped, bounded, not_bound}
 use Rattle.lg_loops.proofs.LastingLaws.{Lasting, no_stretch, stretch_more, lasted, true_not_false}

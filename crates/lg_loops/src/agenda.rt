@@ -3,13 +3,13 @@
 //! Defined in: `specs/Meaning/Pulling.antt`, `specs/Meaning/Pausing.antt`, `specs/Support/Acted.antt`.
 //! Tested in: `lg_node_tests/src/node/finding.rt`, `cases/groups`.
 ghost use Rattle.std.specs.Prelude.{◌≡◌, ◌≤◌, ◌<◌, ◌+◌, ◌%◌, [], true, length, min, if◌then◌else◌, MatchOption};
-ghost use Rattle.lg_loops.specs.Meaning.Pausing.{time_until, look_left, asking_left, least_time};
+ghost use Rattle.lg_turns.specs.Meaning.Pausing.{time_until, look_left, asking_left, least_time};
 ghost use Rattle.lg_loops.specs.Support.Acted.{IsAgenda, IsDuty, IsNoLook, IsNoAsking, IsSeedNext, IsMemberNext};
 ghost use Rattle.lg_loops.specs.Support.Acted.{IsNextAgenda, agenda_at};
 
-use crate::plan::Plan;
 use lg_rules::Addr;
 use lg_timing::{MAX_SEEDS, Moment};
+use lg_turns::Plan;
 
 /// How long it is from one look whether the seeds are to be asked to the next, in milliseconds.
 pub const LOOK_MS: u64 = 1000;

@@ -11,13 +11,13 @@ ghost use Rattle.lg_packet.specs.Meaning.Reading.{packet_of};
 ghost use Rattle.lg_detector.specs.declared.event.Event.TheVariants.{Tick, Heard, Pull, Leave};
 ghost use Rattle.lg_agent.specs.declared.refusal.Refusal.TheVariants.{BadPacket, NoMemory, HistoryFull};
 ghost use Rattle.lg_agent.specs.Meaning.Calls.{receipt_of, is_page, IsCall, IsRefusal, IsBadPacket, IsRotatedPass};
-ghost use Rattle.lg_loops.specs.Meaning.Turns.{MadeNoCall};
+ghost use Rattle.lg_turns.specs.Meaning.Turns.{MadeNoCall};
 
-use crate::shared::Shared;
 use lg_agent::{AgentName, HeardPacket, Pass, Refusal};
 use lg_detector::Reply;
 use lg_rules::Addr;
 use lg_timing::Moment;
+use lg_turns::Shared;
 use std::sync::Wait;
 
 /// Rotates a pass whose call was refused, if that was because the history is full, and counts that. The error means

@@ -3,22 +3,20 @@
 //! Defined in: `specs/Meaning/Turns.antt`, `specs/Support/Took.antt`.
 //! Tested in: `lg_node_tests/src/node/receiving.rt`.
 ghost use Rattle.std.specs.Prelude.{◌≡◌, ◌≤◌, ◌∷◌, ◌++◌, [], List, true};
-ghost use Rattle.lg_loops.specs.Meaning.Links.{LinkEvent};
-ghost use Rattle.lg_loops.specs.Meaning.Links.LinkEvent.{Received};
-ghost use Rattle.lg_loops.specs.Meaning.Turns.{line, receives, Lasted};
+ghost use Rattle.lg_turns.specs.Meaning.Links.{LinkEvent};
+ghost use Rattle.lg_turns.specs.Meaning.Links.LinkEvent.{Received};
+ghost use Rattle.lg_turns.specs.Meaning.Turns.{line, receives, Lasted};
 ghost use Rattle.lg_loops.specs.Support.Took.{Took};
 
-use crate::calling;
-use crate::ending::{Ended, Why};
-use crate::link::{Link, MAX_DATAGRAM};
-use crate::shared::{MAX_TURNS, Shared, Side};
 use crate::stretch::Stretch;
 use crate::turned::Turned;
+use crate::{NodeLoops, calling};
 use lg_agent::{AgentName, Refusal};
 use lg_clock::{Clock, Loop};
 use lg_detector::Reply;
 use lg_rules::Addr;
 use lg_timing::Moment;
+use lg_turns::{Ended, Link, MAX_DATAGRAM, MAX_TURNS, ReceivingLoop, Shared, Side, Why};
 use std::sync::Wait;
 use std::sync::atomic::Ordering::SeqCst;
 
@@ -78,51 +76,33 @@ fn receive_turn<A: AgentName, R: Wait, L: Link, C: Clock>(
     }
 }
 
-/// Hears the datagrams that come over a link, and hands the packets of the replies to it, until the ticking loop is
-/// over.
-///
-/// It makes at most `shared.bound` turns, each of which waits for a datagram, `shared.wait_ms` milliseconds at most.
-/// If it is endless it then goes on, and counts them anew. A datagram whose bytes are no packet is dropped, and a
-/// packet that isn't sent is lost. Both are counted, and so is a packet of another group, which is heard and does
-/// nothing. A full history ends nothing: it is rotated, as
-/// [`Pass::rotate`](lg_agent::Pass::rotate) says, and the datagram is heard then. When a Page was heard, the loop sets
-/// `shared.page_heard`.
-///
-/// It ends with [`Why::LinkFailed`] if receiving failed, with [`Why::Refused`] if a datagram whose bytes are a packet
-/// couldn't be heard, and with [`Why::Ousted`] after a reply that says so. A datagram can't be heard if memory was
-/// refused, for the call or for the rotation. Nor can it be heard if the history is still full after a rotation:
-/// another pass has filled it meanwhile, or there were as many events as a detector accepts. It ends with
-/// [`Why::ReadBound`] only if it isn't endless. However the loop ends, it sets the stop flag for the ticking loop.
-pub fn receive_loop<A: AgentName, R: Wait, L: Link, C: Clock>(
-    shared: &Shared<'_, R, C>,
-    side: Side<'_, L, A>,
-) -> Ended<L, A>
-    requires { shared.now.bound ≤ MAX_TURNS }
-    ensures { Lasted (receives shared.now.wait_ms) L.tells shared.now.bound shared.now.endless
-        (line (L.log side.entry.link) (L.failed side.entry.link))
-        (line (L.log result.link) (L.failed result.link)) side.entry.pass result.spent result.end }
-{
-    let mut side = side;
-    let mut buffer = [0; MAX_DATAGRAM];
-    let mut reply = Reply::default();
-    let mut stretch = Stretch::new();
-    for _ in shared.rt.forever() {
-        if stretch.turns == shared.bound {
-            if !shared.endless {
-                return side.end_loop(shared.stop, stretch.end(Why::ReadBound));
+impl ReceivingLoop for NodeLoops {
+    fn receive_loop<A: AgentName, R: Wait, L: Link, C: Clock>(
+        shared: &Shared<'_, R, C>,
+        side: Side<'_, L, A>,
+    ) -> Ended<L, A> {
+        let mut side = side;
+        let mut buffer = [0; MAX_DATAGRAM];
+        let mut reply = Reply::default();
+        let mut stretch = Stretch::new();
+        for _ in shared.rt.forever() {
+            if stretch.turns == shared.bound {
+                if !shared.endless {
+                    return side.end_loop(shared.stop, stretch.end(Why::ReadBound));
+                }
+                stretch = Stretch::new();
+                continue;
             }
-            stretch = Stretch::new();
-            continue;
+            shared.clock.begin_turn(Loop::Receiving);
+            if shared.over.load(SeqCst) {
+                return side.end_loop(shared.stop, stretch.end(Why::Stopped));
+            }
+            let turned = receive_turn(shared, &mut side, &mut buffer, &mut reply);
+            stretch.add(&turned);
+            if let Some(why) = turned.why {
+                return side.end_loop(shared.stop, stretch.end(why));
+            }
         }
-        shared.clock.begin_turn(Loop::Receiving);
-        if shared.over.load(SeqCst) {
-            return side.end_loop(shared.stop, stretch.end(Why::Stopped));
-        }
-        let turned = receive_turn(shared, &mut side, &mut buffer, &mut reply);
-        stretch.add(&turned);
-        if let Some(why) = turned.why {
-            return side.end_loop(shared.stop, stretch.end(why));
-        }
+        unreachable!()
     }
-    unreachable!()
 }

@@ -4,14 +4,14 @@
 //! Tested in: `lg_node_tests/src/node/receiving.rt`.
 ghost use Rattle.std.specs.Prelude.{◌≡◌, ◌≤◌, length};
 ghost use Rattle.lg_counters.specs.Meaning.Tally.{noted_of};
-ghost use Rattle.lg_loops.specs.Meaning.Links.{WereHanded};
+ghost use Rattle.lg_turns.specs.Meaning.Links.{WereHanded};
 
-use crate::link::Link;
 use arrayvec::ArrayVec;
 use lg_counters::Noted;
 use lg_detector::{MAX_SENDS, Outgoing, Reply};
 use lg_packet::encode;
 use lg_rules::Name;
+use lg_turns::Link;
 
 /// Hands each packet to the link once, in order, and goes on if one isn't sent. Returns how many were not.
 pub(crate) fn send_all<L: Link>(link: &mut L, sends: &[Outgoing]) -> u64

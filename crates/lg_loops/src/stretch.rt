@@ -4,9 +4,8 @@
 //! Tested in: `lg_node_tests/src/node/receiving.rt`, `lg_node_tests/src/node/ticking.rt`.
 ghost use Rattle.std.specs.Prelude.{◌≡◌, ◌≤◌, ◌<◌, ◌+◌, ◌*◌};
 
-use crate::ending::{LoopEnd, Why};
-use crate::shared::MAX_TURNS;
 use crate::turned::Turned;
+use lg_turns::{LoopEnd, MAX_TURNS, Why};
 
 /// What a loop has counted of its turns, since it began or began to count anew.
 #[derive(Drop)]

@@ -5,28 +5,25 @@
 //! Tested in: `lg_node_tests/src/node/ticking.rt`, `cases/groups`.
 ghost use Rattle.std.specs.Prelude.{◌≡◌, ◌≤◌, ◌<◌, ℕ, List, true, false, is_none, if◌then◌else◌, IfSome, MatchOption};
 ghost use Rattle.lg_agent.specs.Meaning.Values.{PassValue};
-ghost use Rattle.lg_loops.specs.declared.plan.Plan.{Plan as Planned};
-ghost use Rattle.lg_loops.specs.Meaning.Leaving.{lingering};
+ghost use Rattle.lg_turns.specs.declared.plan.Plan.{Plan as Planned};
+ghost use Rattle.lg_turns.specs.Meaning.Leaving.{lingering};
 ghost use Rattle.lg_loops.specs.declared.agenda.Duty.TheVariants as duty;
-ghost use Rattle.lg_loops.specs.Meaning.Pausing.{longest_pause};
-ghost use Rattle.lg_loops.specs.Meaning.Pulling.{Ticking};
-ghost use Rattle.lg_loops.specs.Meaning.Turns.{line, words_in, SeesDue, Threw, Turn};
+ghost use Rattle.lg_turns.specs.Meaning.Pausing.{longest_pause};
+ghost use Rattle.lg_turns.specs.Meaning.Pulling.{Ticking};
+ghost use Rattle.lg_turns.specs.Meaning.Turns.{line, words_in, SeesDue, Threw, Turn};
 ghost use Rattle.lg_loops.specs.Support.Acted.{Acted, IsAgenda, IsDuty};
 
 use crate::agenda::{Agenda, Duty};
-use crate::calling;
-use crate::dice::Dice;
-use crate::ending::{Ended, Why};
 use crate::finding::{ask_in_turn, ask_member, ask_seed, look};
-use crate::link::Link;
-use crate::plan::Plan;
-use crate::shared::{MAX_TURNS, Shared, Side, Ticker};
 use crate::stretch::Stretch;
+use crate::ticker::Ticker;
 use crate::turned::Turned;
+use crate::{NodeLoops, calling};
 use lg_agent::AgentName;
 use lg_clock::{Clock, Loop};
 use lg_detector::Reply;
 use lg_timing::Moment;
+use lg_turns::{Dice, Ended, Link, MAX_TURNS, Plan, Shared, Side, TickingLoop, Why};
 use std::sync::Wait;
 use std::sync::atomic::Ordering::SeqCst;
 
@@ -174,68 +171,37 @@ fn next_turn<A: AgentName, R: Wait, L: Link, C: Clock, D: Dice>(
     })
 }
 
-/// Ticks whenever the next deadline has come, and hands the packets of the replies to a link, until the stop flag is
-/// set or its end time comes. Meanwhile it finds its group, as the plan says.
-///
-/// A turn makes one tick if a deadline has come. Otherwise it does the first of these that is to be done:
-/// 1. It asks a seed that waits for this, with a Pull.
-/// 2. It looks at the members, once in [`LOOK_MS`](crate::LOOK_MS) milliseconds. If no Page was heard so far, or each
-///    other member that it knows is gone, all seeds wait to be asked.
-/// 3. It asks a seed and a member in turn for a table, the seed first. The seeds take turns among each other. A member
-///    is one that random words choose of all that it knows, gone ones too; if it knows nobody, nobody is asked. It
-///    does so one interval after it began, or after a look by which all seeds waited. Each further time comes twice as
-///    long after the one before, but at most `plan.pull_ms` milliseconds after it.
-/// 4. It pauses, until the first of these is due, `shared.wait_ms` milliseconds at most.
-///
-/// A look that is refused is put off to its next time. It allocates memory for 256 records.
-///
-/// When it is to stop, and `plan.leaves` says so, this member leaves its group, and the packets that tell some members
-/// at once are handed over ([`Pass::leave`](lg_agent::Pass::leave)). Then the loop goes on for one interval, and
-/// doesn't heed the stop flag. Meanwhile it only ticks, so that others hear of the leave, and asks nobody.
-///
-/// It makes at most `shared.bound` turns. If it is endless it then goes on, and counts them anew. A packet that isn't
-/// sent is lost, and counted. A full history ends nothing: it is rotated, as
-/// [`Pass::rotate`](lg_agent::Pass::rotate) says, and the call is made then, with the same words.
-///
-/// It ends with [`Why::Refused`] if a call was refused or a look at the next deadline, and with [`Why::Ousted`] after a
-/// reply that says so. A call is refused if memory is, for it or for the rotation. It is also refused if the history is
-/// still full after a rotation: another pass has filled it meanwhile, or there were as many events as a detector
-/// accepts. It ends with [`Why::ReadBound`] only if it isn't endless. It leaves at none of these ends. But if the
-/// receiving loop has met the reply that says so first, that one sets the stop flag, and this loop leaves as at any
-/// other stop. However the loop ends, it sets the flag by which the receiving loop ends.
-pub fn tick_loop<A: AgentName, R: Wait, L: Link, C: Clock, D: Dice + Drop>(
-    shared: &Shared<'_, R, C>,
-    side: Side<'_, L, A>,
-    dice: D,
-    plan: Plan,
-) -> Ended<L, A>
-    requires { shared.now.bound ≤ MAX_TURNS }
-    ensures { Ticking D.throws dice plan L.tells shared.now.bound shared.now.endless
-        (line (L.log side.entry.link) (L.failed side.entry.link))
-        (line (L.log result.link) (L.failed result.link)) side.entry.pass result.spent result.end }
-{
-    let mut ticker = Ticker { side, dice };
-    let mut agenda = Agenda::begin(&plan, shared.clock.now());
-    let mut plan = plan;
-    let mut reply = Reply::default();
-    let mut stretch = Stretch::new();
-    for _ in shared.rt.forever() {
-        if stretch.turns == shared.bound {
-            if !shared.endless {
-                return ticker
-                    .side
-                    .end_loop(shared.over, stretch.end(Why::ReadBound));
+impl TickingLoop for NodeLoops {
+    fn tick_loop<A: AgentName, R: Wait, L: Link, C: Clock, D: Dice + Drop>(
+        shared: &Shared<'_, R, C>,
+        side: Side<'_, L, A>,
+        dice: D,
+        plan: Plan,
+    ) -> Ended<L, A> {
+        let mut ticker = Ticker { side, dice };
+        let mut agenda = Agenda::begin(&plan, shared.clock.now());
+        let mut plan = plan;
+        let mut reply = Reply::default();
+        let mut stretch = Stretch::new();
+        for _ in shared.rt.forever() {
+            if stretch.turns == shared.bound {
+                if !shared.endless {
+                    return ticker
+                        .side
+                        .end_loop(shared.over, stretch.end(Why::ReadBound));
+                }
+                stretch = Stretch::new();
+                continue;
             }
-            stretch = Stretch::new();
-            continue;
+            let Some(turned) = next_turn(shared, &mut ticker, &mut plan, &mut agenda, &mut reply)
+            else {
+                return ticker.side.end_loop(shared.over, stretch.end(Why::Stopped));
+            };
+            stretch.add(&turned);
+            if let Some(why) = turned.why {
+                return ticker.side.end_loop(shared.over, stretch.end(why));
+            }
         }
-        let Some(turned) = next_turn(shared, &mut ticker, &mut plan, &mut agenda, &mut reply) else {
-            return ticker.side.end_loop(shared.over, stretch.end(Why::Stopped));
-        };
-        stretch.add(&turned);
-        if let Some(why) = turned.why {
-            return ticker.side.end_loop(shared.over, stretch.end(why));
-        }
+        unreachable!()
     }
-    unreachable!()
 }

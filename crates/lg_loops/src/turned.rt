@@ -3,16 +3,14 @@
 //! Defined in: `specs/Meaning/Links.antt`.
 //! Tested in: `lg_node_tests/src/node/receiving.rt`, `lg_node_refusals/src/refused_memory.rt`.
 ghost use Rattle.std.specs.Prelude.{◌≡◌, ◌≤◌, None, Some, if◌then◌else◌};
-ghost use Rattle.lg_loops.specs.declared.ending.Why.TheVariants.{Ousted, Refused};
-ghost use Rattle.lg_loops.specs.Meaning.Links.{WereHanded};
+ghost use Rattle.lg_turns.specs.declared.ending.Why.TheVariants.{Ousted, Refused};
+ghost use Rattle.lg_turns.specs.Meaning.Links.{WereHanded};
 
-use crate::ending::Why;
-use crate::link::Link;
 use crate::sending::hand_over;
-use crate::shared::Shared;
 use lg_agent::Refusal;
 use lg_detector::Reply;
 use lg_timing::Moment;
+use lg_turns::{Link, Shared, Why};
 use std::sync::Wait;
 
 /// What one turn reports to its loop.

@@ -1,16 +1,16 @@
 //! What a node does before its threads: it hands out the passes of its agent, makes its links, and asks its seeds.
 //!
-//! Defined in: `specs/Support/Begun.antt`, `specs/Meaning/Nodes.antt`, `lg_loops/specs/Meaning/NodeLinks.antt`.
+//! Defined in: `specs/Support/Begun.antt`, `specs/Meaning/Nodes.antt`, `lg_turns/specs/Meaning/NodeLinks.antt`.
 //! Tested in: `lg_node_tests/src/node/asking.rt`, `cases/nodes`.
 ghost use Rattle.std.specs.Prelude.{◌≡◌, ◌∷◌, [], ℕ, All, IfErr, IfOk, IfSome, length};
 ghost use Rattle.lg_timing.specs.declared.config.Config.{Config as Opened};
 ghost use Rattle.lg_detector.specs.declared.event.Event.TheVariants.{Open};
 ghost use Rattle.lg_node.specs.Meaning.Nodes.{fresh_own, IsRefusedEarly};
 ghost use Rattle.lg_node.specs.Support.Begun.{HasBegun};
-ghost use Rattle.lg_loops.specs.Meaning.NodeLinks.{failures_of, link_keys};
-ghost use Rattle.lg_loops.specs.Meaning.Pulling.{plan_of};
-ghost use Rattle.lg_loops.specs.Meaning.Turns.{line};
-ghost use Rattle.lg_loops.specs.Meaning.Words.{seeded};
+ghost use Rattle.lg_turns.specs.Meaning.NodeLinks.{failures_of, link_keys};
+ghost use Rattle.lg_turns.specs.Meaning.Pulling.{plan_of};
+ghost use Rattle.lg_turns.specs.Meaning.Turns.{line};
+ghost use Rattle.lg_turns.specs.Meaning.Words.{seeded};
 
 use crate::serving::StatusServer;
 use crate::start::{PLACES, Setup};
@@ -20,18 +20,18 @@ use lg_agent::{Agent, AgentName, Pass, Refusal};
 use lg_clock::Clock;
 use lg_counters::Counters;
 use lg_detector::Event;
-use lg_loops::{NodeLink, PcgDice, Plan, Shared, Side, UdpLink, ask_each};
+use lg_turns::{NodeLink, PcgDice, Plan, SeedAsker, Shared, Side, UdpLink};
 use lg_view::{Published, Update};
 use std::alloc::Global;
 use std::sync::Wait;
 
 /// What the threads of a node begin with, and how many packets weren't sent to the seeds.
 #[derive(Drop)]
-pub(crate) struct Ready<'p, 'n, 's, 'c, 'r, A: AgentName, R>
+pub(crate) struct Ready<'p, 'n, 's, 'c, 'r, A: AgentName, O, R>
 where
     Published<A>: Absorb<Update<A>, State = [Event; 0]>,
 {
-    pub(crate) sides: Sides<'p, 'p, NodeLink<'s, 'c>, A>,
+    pub(crate) sides: Sides<'p, 'p, NodeLink<'s, 'c>, A, O>,
     /// The pass that has asked the seeds.
     pub(crate) asker: Pass<'p, A>,
     pub(crate) server: ServerSide<'p, 'n, 's, 'r, A, R>,
@@ -39,12 +39,17 @@ where
 }
 
 /// Hands out the passes of a fresh agent, makes the links of a node, and asks the seeds.
-pub(crate) fn begin<'p, 'n, 's, 'c, 'r, A: AgentName, R: Wait, C: Clock>(
+pub(crate) fn begin<'p, 'n, 's, 'c, 'r, A, O, R, C>(
     shared: &Shared<'c, R, C>,
     agent: &'p mut Agent<A>,
-    setup: &Setup<'n, 's>,
+    setup: &Setup<'n, 's, O>,
     server: Option<StatusServer<'s, 'r, R>>,
-) -> Result<Ready<'p, 'n, 's, 'c, 'r, A, R>, Refusal>
+) -> Result<Ready<'p, 'n, 's, 'c, 'r, A, O, R>, Refusal>
+where
+    A: AgentName,
+    O: SeedAsker + Copy,
+    R: Wait,
+    C: Clock,
     requires places { length agent.old.told ≡ PLACES }
     ensures begun { (start : ℕ) → agent.old.name ≡ setup.now.config.now.name
         → All (λ seen. seen ≡ Open start setup.now.config.now ∷ []) agent.old.told
@@ -65,7 +70,7 @@ pub(crate) fn begin<'p, 'n, 's, 'c, 'r, A: AgentName, R: Wait, C: Clock>(
         return Err(Refusal::NoMemory);
     };
     let mut sends = link_of(shared.counters, setup);
-    let unsent = match ask_each(shared, &mut passes.asker, &mut sends, &setup.config.seeds) {
+    let unsent = match O::ask_each(shared, &mut passes.asker, &mut sends, &setup.config.seeds) {
         Ok(unsent) => unsent,
         Err(refusal) => {
             drop(server);
@@ -81,6 +86,7 @@ pub(crate) fn begin<'p, 'n, 's, 'c, 'r, A: AgentName, R: Wait, C: Clock>(
         status,
     } = passes;
     let sides = Sides::of(
+        setup.loops,
         Side::new(receiver, link_of(shared.counters, setup)),
         Side::new(ticker, sends),
         PcgDice::new(setup.settings.dice),
@@ -101,7 +107,7 @@ pub(crate) fn begin<'p, 'n, 's, 'c, 'r, A: AgentName, R: Wait, C: Clock>(
 }
 
 /// A link over the socket of a node, with its keys if it has any. It hasn't failed yet.
-fn link_of<'n, 's, 'c>(counters: &'c Counters, setup: &Setup<'n, 's>) -> NodeLink<'s, 'c>
+fn link_of<'n, 's, 'c, O>(counters: &'c Counters, setup: &Setup<'n, 's, O>) -> NodeLink<'s, 'c>
     ensures keys { link_keys result ≡ setup.now.settings.now.keys }
     ensures unfailed { failures_of result ≡ 0 }
 {

@@ -4,12 +4,12 @@
 //! This work is a type parameter each, since the checker looks through all types that a thread is handed, and those of
 //! a pass lead to the whole agent.
 //!
-//! Defined in: `lg_loops/specs/Meaning/Turns.antt`, `lg_loops/specs/Meaning/Pulling.antt`.
+//! Defined in: `lg_turns/specs/Meaning/Turns.antt`, `lg_turns/specs/Meaning/Pulling.antt`.
 //! Tested in: `lg_node_tests/src/node/both.rt`, `lg_node_refusals/src/refused_memory.rt`.
 ghost use Rattle.std.specs.Prelude.{◌≡◌, ◌≤◌, true, false};
-ghost use Rattle.lg_loops.specs.Meaning.Pulling.{Ticking};
-ghost use Rattle.lg_loops.specs.Meaning.Turns.{line, unstarted, MadeNoTurn};
-ghost use Rattle.lg_loops.specs.Meaning.Words.{DrawsEight};
+ghost use Rattle.lg_turns.specs.Meaning.Pulling.{Ticking};
+ghost use Rattle.lg_turns.specs.Meaning.Turns.{line, unstarted, MadeNoTurn};
+ghost use Rattle.lg_turns.specs.Meaning.Words.{DrawsEight};
 
 use crate::parts::{Does, Work, join_or_do, start_if};
 use left_right::Absorb;
@@ -17,7 +17,7 @@ use lg_agent::AgentName;
 use lg_clock::Clock;
 use lg_detector::Event;
 use lg_http::Signal;
-use lg_loops::{Ended, Link, MAX_TURNS, PcgDice, Plan, Shared, Side, tick_loop};
+use lg_turns::{Ended, Link, MAX_TURNS, PcgDice, Plan, Shared, Side, TickingLoop};
 use lg_view::{Published, Update};
 use std::sync::Wait;
 use std::sync::atomic::Ordering::SeqCst;
@@ -45,10 +45,12 @@ fn without_turn<L, A: AgentName>(side: Side<'_, L, A>, dice: PcgDice, plan: Plan
 
 /// What the ticking loop works with.
 #[derive(Drop)]
-pub(crate) struct Ticks<'t, L, A: AgentName>
+pub(crate) struct Ticks<'t, L, A: AgentName, O>
 where
     Published<A>: Absorb<Update<A>, State = [Event; 0]>,
 {
+    /// Which loops these are.
+    pub(crate) loops: O,
     pub(crate) side: Side<'t, L, A>,
     pub(crate) dice: PcgDice,
     pub(crate) plan: Plan,
@@ -76,16 +78,17 @@ pub(crate) struct Done<E, F, T, U> {
 ///
 /// If no thread can be started for the receiving loop, the flag that the loops are over is set first, its work is done
 /// here, and the ticking loop makes no turn.
-pub(crate) fn tick_beside<A, R, L, C, Y, E, V, T, X, U>(
+pub(crate) fn tick_beside<A, O, R, L, C, Y, E, V, T, X, U>(
     shared: &Shared<'_, R, C>,
     signal: Option<&Signal>,
-    ticks: Ticks<'_, L, A>,
+    ticks: Ticks<'_, L, A, O>,
     receiving: Y,
     watching: V,
     serving: X,
 ) -> Done<E, Ended<L, A>, T, U>
 where
     A: AgentName + Send + Sync,
+    O: TickingLoop + Copy,
     R: Wait + Threads + Sync,
     L: Link + Send + Drop,
     C: Clock + Sync,
@@ -111,7 +114,12 @@ where
     ensures watched { V.gives watching result.watched }
     ensures served { X.gives serving result.served }
 {
-    let Ticks { side, dice, plan } = ticks;
+    let Ticks {
+        side,
+        dice,
+        plan,
+        ..
+    } = ticks;
     thread::scope(
         thread::scope_env(),
         shared.rt,
@@ -134,7 +142,7 @@ where
             let receiving = start_if(scope, Does::of(&receiving), move || receiving.work());
             let had_thread = receiving.0.is_ok();
             let ticked = if had_thread {
-                tick_loop(shared, side, dice, plan)
+                O::tick_loop(shared, side, dice, plan)
             } else {
                 shared.over.store(true, SeqCst);
                 without_turn(side, dice, plan)

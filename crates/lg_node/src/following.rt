@@ -12,7 +12,7 @@ use lg_agent::{AgentName, Pass};
 use lg_clock::Clock;
 use lg_detector::Event;
 use lg_follow::{News, Watched, watch};
-use lg_loops::{ChangeSignal, Shared};
+use lg_turns::{ChangeSignal, Shared};
 use lg_view::{Published, Update};
 use std::io::Write;
 use std::rt;

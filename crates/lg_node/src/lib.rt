@@ -17,11 +17,11 @@ pub use following::{WatcherLeft, Watching};
 pub use lg_clock::{Clock, Loop, MachineClock, SteadyClock};
 pub use lg_counters::Counters;
 pub use lg_follow::Watched;
-pub use lg_loops::{
-    ChangeSignal, Counted, Dice, Ended, KeyedLink, LOOK_MS, Link, LinkFault, LoopEnd, MAX_DATAGRAM,
-    MAX_TURNS, PcgDice, Plan, Shared, Side, UdpLink, Why, receive_loop, tick_loop,
-};
 pub use lg_status_server::Served;
+pub use lg_turns::{
+    ChangeSignal, Counted, Dice, Ended, KeyedLink, Link, LinkFault, LoopEnd, MAX_DATAGRAM,
+    MAX_TURNS, PcgDice, Plan, ReceivingLoop, SeedAsker, Shared, Side, TickingLoop, UdpLink, Why,
+};
 pub use node::{NodeEnd, NodeFault, NodeStart, Settings, run_node};
 pub use parts::Work;
 pub use serving::{ServerLeft, StatusServer};

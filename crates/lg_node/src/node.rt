@@ -11,12 +11,12 @@ use crate::sockets::Sockets;
 use crate::start::{Setup, open_and_serve};
 use lg_agent::{CloseFault, Closed, Refusal};
 use lg_follow::Watched;
-use lg_loops::LoopEnd;
 use lg_rules::{Addr, Record};
 use lg_seal::Keys;
 use lg_status_server::Served;
 use lg_text::FaultStream;
 use lg_timing::{Config, Moment};
+use lg_turns::{LoopEnd, ReceivingLoop, SeedAsker, TickingLoop};
 use lg_view::UnnamedBook;
 use std::alloc::Global;
 use std::io::{ErrorKind, Write};
@@ -53,7 +53,9 @@ pub struct Settings {
 
 /// What a node is started with.
 #[derive(Clone, Copy, Debug)]
-pub struct NodeStart<'n> {
+pub struct NodeStart<'n, O> {
+    /// Which loops it has: those of `lg_loops`.
+    pub loops: O,
     /// Its configuration.
     pub config: &'n Config,
     /// What it is told besides.
@@ -138,14 +140,15 @@ pub enum NodeFault {
 /// [`NodeFault::Status`], [`NodeFault::Clock`], or [`NodeFault::Refused`] if memory was refused or there was no reader
 /// for a pass. If a seed's call was refused, it may also be [`Refusal::HistoryFull`] or [`Refusal::Behind`], but
 /// neither should ever happen.
-pub fn run_node<R, W, F>(
+pub fn run_node<O, R, W, F>(
     rt: &R,
     alloc: Global,
-    start: &NodeStart<'_>,
+    start: &NodeStart<'_, O>,
     writer: &mut W,
     faults: &mut F,
 ) -> Result<NodeEnd, NodeFault>
 where
+    O: SeedAsker + TickingLoop + ReceivingLoop + Copy + Send,
     R: Wait + Threads + Net + rt::Clock + RandomSource + Sync,
     W: Write + Send,
     F: FaultStream + Send,
@@ -168,6 +171,7 @@ where
         signal,
     } = sockets;
     let setup = Setup {
+        loops: start.loops,
         alloc,
         config: start.config,
         settings: start.settings,
@@ -180,5 +184,5 @@ where
         Ok(status) => status,
         Err(fault) => return Err(fault),
     };
-    open_and_serve::<Brand, R, W, F>(rt, UnnamedBook::new(), &setup, status, writer, faults)
+    open_and_serve::<Brand, O, R, W, F>(rt, UnnamedBook::new(), &setup, status, writer, faults)
 }

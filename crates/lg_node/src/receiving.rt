@@ -1,41 +1,44 @@
 //! The work of the receiving loop, in a thread of its own.
 //!
-//! Defined in: `lg_loops/specs/Meaning/Turns.antt`, `lg_loops/specs/Meaning/BothLoops.antt`.
+//! Defined in: `lg_turns/specs/Meaning/Turns.antt`, `lg_turns/specs/Meaning/BothLoops.antt`.
 //! Tested in: `lg_node_tests/src/node/both.rt`, `lg_node_refusals/src/refused_memory.rt`.
 ghost use Rattle.std.specs.Prelude.{◌≡◌, ◌≤◌, true, false};
 ghost use Rattle.lg_agent.specs.declared.refusal.Refusal.TheVariants.{NoMemory};
-ghost use Rattle.lg_loops.specs.declared.ending.Why.TheVariants.{Refused};
+ghost use Rattle.lg_turns.specs.declared.ending.Why.TheVariants.{Refused};
 
 use crate::parts::Work;
 use left_right::Absorb;
 use lg_agent::{AgentName, Pass, Refusal};
 use lg_clock::Clock;
 use lg_detector::Event;
-use lg_loops::{Ended, Link, Shared, Side, Why, receive_loop};
+use lg_turns::{Ended, Link, ReceivingLoop, Shared, Side, Why};
 use lg_view::{Published, Update};
 use std::sync::Wait;
 
 /// The receiving loop: what it works with.
 #[derive(Drop)]
-pub(crate) struct Receiving<'x, 'a, 'l, L, A: AgentName, R, C>
+pub(crate) struct Receiving<'x, 'a, 'l, L, A: AgentName, O, R, C>
 where
     Published<A>: Absorb<Update<A>, State = [Event; 0]>,
 {
+    /// Which loops these are.
+    pub(crate) loops: O,
     pub(crate) shared: &'x Shared<'a, R, C>,
     pub(crate) pass: Pass<'l, A>,
     pub(crate) link: L,
 }
 
-impl<'x, 'a, 'l, L, A, R, C> Work<Ended<L, A>> for Receiving<'x, 'a, 'l, L, A, R, C>
+impl<'x, 'a, 'l, L, A, O, R, C> Work<Ended<L, A>> for Receiving<'x, 'a, 'l, L, A, O, R, C>
 where
     L: Link,
     A: AgentName,
+    O: ReceivingLoop + Copy,
     R: Wait,
     C: Clock,
 {
     ghost use Rattle.std.specs.Prelude.{◌≤◌};
-    ghost use Rattle.lg_loops.specs.Meaning.Turns.{line, receives, Lasted};
-    ghost use Rattle.lg_loops.specs.declared.shared.TheConstants.{MAX_TURNS};
+    ghost use Rattle.lg_turns.specs.Meaning.Turns.{line, receives, Lasted};
+    ghost use Rattle.lg_turns.specs.declared.shared.TheConstants.{MAX_TURNS};
 
     ghost needs = { λ w. w.shared.now.bound ≤ MAX_TURNS };
 
@@ -48,7 +51,7 @@ where
     }
 
     fn work(self) -> Ended<L, A> {
-        receive_loop(self.shared, Side::new(self.pass, self.link))
+        O::receive_loop(self.shared, Side::new(self.pass, self.link))
     }
 }
 

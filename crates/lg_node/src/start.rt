@@ -5,7 +5,7 @@
 //! What is let go at the end of a block is proved field by field, each time anew, and what a call takes isn't. So large
 //! values are handed to a call here, to `drop` if there is no other.
 //!
-//! Defined in: `specs/Meaning/Starts.antt`, `specs/Meaning/Nodes.antt`, `lg_loops/specs/Meaning/NodeLinks.antt`.
+//! Defined in: `specs/Meaning/Starts.antt`, `specs/Meaning/Nodes.antt`, `lg_turns/specs/Meaning/NodeLinks.antt`.
 //! Tested in: `lg_node_tests/src/node/asking.rt`, `cases/nodes`.
 ghost use Rattle.std.specs.Prelude.{◌≡◌, ◌≤◌, ◌⊎◌, ◌∷◌, [], ℕ, false, length, All, is_some};
 ghost use Rattle.std.specs.Prelude.{IfErr, IfOk, IfSome, OnErr};
@@ -27,10 +27,10 @@ use lg_agent::{Agent, AgentName, Refusal, Spent};
 use lg_clock::{Clock, SteadyClock};
 use lg_counters::Counters;
 use lg_http::Signal;
-use lg_loops::{ChangeSignal, MAX_TURNS, Shared};
 use lg_rules::Name;
 use lg_text::FaultStream;
 use lg_timing::{Config, Moment};
+use lg_turns::{ChangeSignal, MAX_TURNS, ReceivingLoop, SeedAsker, Shared, TickingLoop};
 use lg_view::UnnamedBook;
 use std::alloc::Global;
 use std::io::Write;
@@ -49,7 +49,9 @@ pub(crate) const PLACES: usize = 4;
 
 /// What a node is set up with, when its ticking loop ends, what stops it earlier, and its sockets.
 #[derive(Drop)]
-pub(crate) struct Setup<'n, 's> {
+pub(crate) struct Setup<'n, 's, O> {
+    /// Which loops it has.
+    pub(crate) loops: O,
     /// From it the node takes all its memory.
     pub(crate) alloc: Global,
     pub(crate) config: &'n Config,
@@ -62,16 +64,17 @@ pub(crate) struct Setup<'n, 's> {
 }
 
 /// Opens a node over its socket, serves until one of its loops ends, and closes it.
-pub(crate) fn open_and_serve<'s, A, R, W, F>(
+pub(crate) fn open_and_serve<'s, A, O, R, W, F>(
     rt: &R,
     book: UnnamedBook,
-    setup: &Setup<'_, 's>,
+    setup: &Setup<'_, 's, O>,
     status: Option<StatusServer<'s, '_, R>>,
     writer: &mut W,
     faults: &mut F,
 ) -> Result<NodeEnd, NodeFault>
 where
     A: AgentName + Send + Sync,
+    O: SeedAsker + TickingLoop + ReceivingLoop + Copy + Send,
     R: Wait + Threads + rt::Clock + Sync,
     W: Write + Send,
     F: FaultStream + Send,
@@ -88,7 +91,7 @@ where
     ensures told { IfOk result (λ e. TellsServed e.served (F.reported faults.old) (F.reported faults.new)) }
     ensures untold { OnErr result (faults.new ≡ faults.old) }
 {
-    let (mut agent, room, commons) = match open_node::<A, R>(rt, setup, book) {
+    let (mut agent, room, commons) = match open_node::<A, O, R>(rt, setup, book) {
         Ok(opened) => opened,
         Err(fault) => {
             drop(status);
@@ -159,9 +162,9 @@ impl<'r, R: Wait + rt::Clock> Commons<'r, R> {
 type Opened<'r, A, R> = (Agent<A>, Vec<Spent<A>>, Commons<'r, R>);
 
 /// Opens a node: reads its clock, and opens its agent with the passes of a node.
-fn open_node<'r, A: AgentName, R: Wait + rt::Clock>(
+fn open_node<'r, A: AgentName, O, R: Wait + rt::Clock>(
     rt: &'r R,
-    setup: &Setup<'_, '_>,
+    setup: &Setup<'_, '_, O>,
     book: UnnamedBook,
 ) -> Result<Opened<'r, A, R>, NodeFault>
     requires book { book.seen.book ≡ A.book }
@@ -183,7 +186,7 @@ fn open_node<'r, A: AgentName, R: Wait + rt::Clock>(
         }
     };
     let start = clock.now();
-    match open_agent::<A, R>(rt, setup, book, start) {
+    match open_agent::<A, O, R>(rt, setup, book, start) {
         Ok((agent, room)) => Ok((agent, room, Commons::new(clock, setup.config.name, start))),
         Err(refusal) => {
             drop(clock);
@@ -194,9 +197,9 @@ fn open_node<'r, A: AgentName, R: Wait + rt::Clock>(
 
 /// An agent that is opened at a moment with the passes of a node, and a list with enough capacity for what these leave.
 /// The error is that memory was refused, or that there was no reader for a pass.
-fn open_agent<A: AgentName, R: Wait>(
+fn open_agent<A: AgentName, O, R: Wait>(
     rt: &R,
-    setup: &Setup<'_, '_>,
+    setup: &Setup<'_, '_, O>,
     book: UnnamedBook,
     start: Moment,
 ) -> Result<(Agent<A>, Vec<Spent<A>>), Refusal>

@@ -22,16 +22,16 @@
 //! loop lingers. When both have ended, the watcher is woken, which sees that it is over, and the server is told to
 //! stop.
 //!
-//! Defined in: `specs/Meaning/Nodes.antt`, `lg_loops/specs/Meaning/Turns.antt`, `lg_loops/specs/Meaning/Pulling.antt`,
-//! `lg_loops/specs/Meaning/BothLoops.antt`.
+//! Defined in: `specs/Meaning/Nodes.antt`, `lg_turns/specs/Meaning/Turns.antt`, `lg_turns/specs/Meaning/Pulling.antt`,
+//! `lg_turns/specs/Meaning/BothLoops.antt`.
 //! Tested in: `lg_node_tests/src/node/both.rt`, `lg_node_refusals/src/refused_memory.rt`, `cases/nodes`,
 //! `cases/groups`, `cases/status`.
 ghost use Rattle.std.specs.Prelude.{◌≡◌, ◌≤◌, is_some, IfSome};
 ghost use Rattle.lg_http.specs.Meaning.Slots.{AreFree, slots_of};
 ghost use Rattle.lg_node.specs.Meaning.Nodes.{ServesIf, TellsServed};
-ghost use Rattle.lg_loops.specs.Meaning.BothLoops.{BothRan};
-ghost use Rattle.lg_loops.specs.Meaning.Turns.{line};
-ghost use Rattle.lg_loops.specs.Meaning.Words.{DrawsEight};
+ghost use Rattle.lg_turns.specs.Meaning.BothLoops.{BothRan};
+ghost use Rattle.lg_turns.specs.Meaning.Turns.{line};
+ghost use Rattle.lg_turns.specs.Meaning.Words.{DrawsEight};
 
 use crate::beside::{Ticks, tick_beside};
 use crate::node::Settings;
@@ -43,9 +43,9 @@ use lg_agent::{AgentName, Pass};
 use lg_clock::Clock;
 use lg_detector::Event;
 use lg_http::Signal;
-use lg_loops::{Ended, Link, MAX_TURNS, PcgDice, Plan, Shared, Side};
 use lg_text::FaultStream;
 use lg_timing::Config;
+use lg_turns::{Ended, Link, MAX_TURNS, PcgDice, Plan, ReceivingLoop, Shared, Side, TickingLoop};
 use lg_view::{Published, Update};
 use std::rt;
 use std::sync::Wait;
@@ -60,10 +60,12 @@ pub type Joined<'p, 'f, L, A, T, F> = (T, (ServerLeft<'p, 'f, A, F>, Both<L, A>)
 
 /// What both loops work with.
 #[derive(Drop)]
-pub struct Sides<'l, 't, L, A: AgentName>
+pub struct Sides<'l, 't, L, A: AgentName, O>
 where
     Published<A>: Absorb<Update<A>, State = [Event; 0]>,
 {
+    /// Which loops these are.
+    pub loops: O,
     /// The side of the receiving loop.
     pub receiver: Side<'l, L, A>,
     /// The side of the ticking loop.
@@ -74,20 +76,22 @@ where
     pub plan: Plan,
 }
 
-impl<'l, 't, L, A: AgentName> Sides<'l, 't, L, A> {
-    /// These sides, with these dice and this plan.
+impl<'l, 't, L, A: AgentName, O> Sides<'l, 't, L, A, O> {
+    /// These sides of these loops, with these dice and this plan.
     pub fn of(
+        loops: O,
         receiver: Side<'l, L, A>,
         ticker: Side<'t, L, A>,
         dice: PcgDice,
         plan: Plan,
-    ) -> Sides<'l, 't, L, A>
+    ) -> Sides<'l, 't, L, A, O>
         ensures receiver { result.receiver ≡ receiver.entry }
         ensures ticker { result.ticker ≡ ticker.entry }
         ensures dice { result.dice ≡ dice }
         ensures plan { result.plan ≡ plan }
     {
         Sides {
+            loops,
             receiver,
             ticker,
             dice,
@@ -116,15 +120,16 @@ where
 ///
 /// The caller of [`join_threads`] makes the watcher's work, [`join_threads`] makes the server's, and this function
 /// makes the receiving loop's. The checker can't prove a function that makes two of them.
-fn loops_with<A, R, L, C, V, T, X, U>(
+fn loops_with<A, O, R, L, C, V, T, X, U>(
     shared: &Shared<'_, R, C>,
-    sides: Sides<'_, '_, L, A>,
+    sides: Sides<'_, '_, L, A, O>,
     signal: Option<&Signal>,
     watching: V,
     serving: X,
 ) -> (Both<L, A>, (T, U))
 where
     A: AgentName + Send + Sync,
+    O: TickingLoop + ReceivingLoop + Copy + Send,
     R: Wait + Threads + Sync,
     L: Link + Send + Drop,
     C: Clock + Sync,
@@ -146,12 +151,18 @@ where
         result.0.1.spent result.0.1.end }
 {
     let ticks = Ticks {
+        loops: sides.loops,
         side: sides.ticker,
         dice: sides.dice,
         plan: sides.plan,
     };
     let Side { pass, link } = sides.receiver;
-    let receiving = Receiving { shared, pass, link };
+    let receiving = Receiving {
+        loops: sides.loops,
+        shared,
+        pass,
+        link,
+    };
     let done = tick_beside(shared, signal, ticks, receiving, watching, serving);
     let received = end_of(done.received, done.had_thread);
     ((received, done.ticked), (done.watched, done.served))
@@ -169,15 +180,16 @@ where
 /// to stop before it begins.
 ///
 /// Gives back what the watcher's work gave, what the server left, and both ends of the loops.
-pub fn join_threads<'l, 'p, 'f, A, R, L, C, V, T, F>(
+pub fn join_threads<'l, 'p, 'f, A, O, R, L, C, V, T, F>(
     shared: &Shared<'_, R, C>,
-    sides: Sides<'l, 'l, L, A>,
+    sides: Sides<'l, 'l, L, A, O>,
     server: ServerSide<'p, '_, '_, '_, A, R>,
     watching: V,
     faults: &'f mut F,
 ) -> Joined<'p, 'f, L, A, T, F>
 where
     A: AgentName + Send + Sync,
+    O: TickingLoop + ReceivingLoop + Copy + Send,
     R: Wait + Threads + rt::Clock + Sync,
     L: Link + Send + Drop,
     C: Clock + Sync,

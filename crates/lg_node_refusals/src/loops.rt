@@ -6,9 +6,11 @@ use arrayvec::ArrayVec;
 use left_right::Absorb;
 use lg_agent::{AgentName, Pass, Spent};
 use lg_detector::Event;
+use lg_loops::NodeLoops;
 use lg_node::{
-    Both, ChangeSignal, Counters, Ended, LoopEnd, MAX_TURNS, PcgDice, Plan, ServerSide, Settings,
-    Shared, Side, Sides, StatusServer, Watched, Watching, join_threads, receive_loop, tick_loop,
+    Both, ChangeSignal, Counters, Ended, LoopEnd, MAX_TURNS, PcgDice, Plan, ReceivingLoop,
+    ServerSide, Settings, Shared, Side, Sides, StatusServer, TickingLoop, Watched, Watching,
+    join_threads,
 };
 use lg_rules::Name;
 use lg_testing::{Room, at, letter, local};
@@ -118,9 +120,9 @@ fn run_loop<'m, A: AgentName, R: Wait + rt::Clock>(
     requires { shared.now.bound ≤ MAX_TURNS }
 {
     match alone {
-        Alone::Receiving => receive_loop(shared, side),
+        Alone::Receiving => NodeLoops::receive_loop(shared, side),
         Alone::Ticking(until, leaves) => {
-            tick_loop(shared, side, PcgDice::new(0), ticks_until(until, leaves))
+            NodeLoops::tick_loop(shared, side, PcgDice::new(0), ticks_until(until, leaves))
         }
     }
 }
@@ -287,6 +289,7 @@ where
         status,
     } = passes;
     let sides = Sides::of(
+        NodeLoops,
         Side::new(receiver, PingLink::new(rt, signs)),
         Side::new(ticker, PingLink::new(rt, signs)),
         PcgDice::new(0),

@@ -1,4 +1,5 @@
 //! A node with a status server, whose loops end at once.
+use lg_loops::NodeLoops;
 use lg_node::{NodeStart, Served, Settings, run_node};
 use lg_testing::{Room, at, letter, local};
 use lg_timing::Config;
@@ -44,6 +45,7 @@ where
     let stop = AtomicBool::new(false);
     let mut unread = Room::failing(0);
     let start = NodeStart {
+        loops: NodeLoops,
         config: &config,
         settings: &settings,
         until: at(0),

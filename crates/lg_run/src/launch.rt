@@ -18,6 +18,7 @@ use crate::wishes::{Wishes, end_wished, is_announced};
 use crate::words::{link_reason, start_line};
 use lg_config::{NodeConfig, ReadFault};
 use lg_lines::put_table;
+use lg_loops::NodeLoops;
 use lg_node::{NodeEnd, NodeFault, NodeStart, Settings, run_node};
 use lg_rules::{Addr, Record};
 use lg_seal::Keys;
@@ -89,6 +90,7 @@ where
     };
     let settings = settings_of(&node, keys, wishes.follow);
     let start = NodeStart {
+        loops: NodeLoops,
         config: &node.config,
         settings: &settings,
         until: end_wished(wishes.until),

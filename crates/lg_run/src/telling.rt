@@ -4,7 +4,7 @@
 //! Tested in: `lg_command_tests/src/launch/order.rt`.
 ghost use Rattle.std.specs.Prelude.{◌≡◌, unwrap_or, Ok};
 ghost use Rattle.std.specs.Option.{option_map};
-ghost use Rattle.lg_loops.specs.declared.ending.Why.TheVariants.{Stopped};
+ghost use Rattle.lg_turns.specs.declared.ending.Why.TheVariants.{Stopped};
 ghost use Rattle.lg_run.specs.declared.told.Told.{Told as OneTold};
 ghost use Rattle.lg_run.specs.Meaning.Running.{table_at_end};
 ghost use Rattle.lg_run.specs.Meaning.Telling.{ending, finished, run_told};

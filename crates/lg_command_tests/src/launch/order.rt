@@ -2,6 +2,7 @@
 ghost use Rattle.lg_timing.specs.Meaning.Config.{IsChecked};
 
 use lg_agent::{CloseFault, Refusal};
+use lg_loops::NodeLoops;
 use lg_node::{NodeEnd, NodeFault, NodeStart, Settings, Why, run_node};
 use lg_rules::{Addr, Name};
 use lg_run::Told;
@@ -203,6 +204,7 @@ where
     let mut unread = Room::failing(0);
     let mut untold = Room::failing(0);
     let start = NodeStart {
+        loops: NodeLoops,
         config: &config(0),
         settings: &settings,
         until: at(0),

@@ -7,13 +7,13 @@ use Rattle.lg_agent.specs.Meaning.Values.{PassValue}
 use Rattle.lg_loops.specs.declared.agenda.Agenda.{Agenda}
 use Rattle.lg_loops.specs.declared.agenda.Duty.{Duty}
 use Rattle.lg_loops.specs.declared.agenda.Duty.TheVariants.{Seed, Look, SeedInTurn, Member, Rest}
-use Rattle.lg_loops.specs.declared.plan.Plan.{Plan}
+use Rattle.lg_turns.specs.declared.plan.Plan.{Plan}
 use Rattle.lg_loops.specs.declared.turned.Turned.{Turned}
-use Rattle.lg_loops.specs.Meaning.Turns.{Turn, LinkValue, is_of_ticking}
-use Rattle.lg_loops.specs.Meaning.Leaving.{next_plan}
-use Rattle.lg_loops.specs.Meaning.Pulling.{addrs, look_ms, looks_in, last_moment, waiting_after, IsTimely}
-use Rattle.lg_loops.specs.Meaning.Pulling.{askings_after, asking_distance, is_seeds_turn, seed_turns}
-use Rattle.lg_loops.specs.Meaning.Pausing.{look_left, asking_left, least_time}
+use Rattle.lg_turns.specs.Meaning.Turns.{Turn, LinkValue, is_of_ticking}
+use Rattle.lg_turns.specs.Meaning.Leaving.{next_plan}
+use Rattle.lg_turns.specs.Meaning.Pulling.{addrs, look_ms, looks_in, last_moment, waiting_after, IsTimely}
+use Rattle.lg_turns.specs.Meaning.Pulling.{askings_after, asking_distance, is_seeds_turn, seed_turns}
+use Rattle.lg_turns.specs.Meaning.Pausing.{look_left, asking_left, least_time}
 use Rattle.lg_loops.specs.Support.Took.{Took}
 
 -- the seeds that wait by an agenda

@@ -2,7 +2,7 @@
 use Rattle.std.specs.Prelude.{◌≡◌, ◌+◌, ◌≤◌, Bool, true, ◌++◌}
 use Rattle.lg_agent.specs.Meaning.Values.{PassValue}
 use Rattle.lg_loops.specs.declared.turned.Turned.{Turned}
-use Rattle.lg_loops.specs.Meaning.Turns.{Turn, LinkValue, IsTurn, deeds, drops, losses, breaks, stops}
+use Rattle.lg_turns.specs.Meaning.Turns.{Turn, LinkValue, IsTurn, deeds, drops, losses, breaks, stops}
 
 -- There is a turn of this kind that led a pass and a link from one state to another. Whether it ends the loop, and
 -- what is counted of it, is as reported.

@@ -22,20 +22,20 @@ use Rattle.lg_answers.specs.declared.snapshot.ShownConfig.{ShownConfig}
 use Rattle.lg_status_server.specs.declared.serving.Served.{Served}
 use Rattle.lg_status_server.specs.declared.serving.Served.TheVariants as served
 use Rattle.lg_status_server.specs.Meaning.Served.{served_line, ServedAs}
-use Rattle.lg_loops.specs.declared.ending.LoopEnd.{LoopEnd}
+use Rattle.lg_turns.specs.declared.ending.LoopEnd.{LoopEnd}
 use Rattle.lg_node.specs.declared.node.NodeEnd.{NodeEnd}
 use Rattle.lg_node.specs.declared.node.NodeFault.{NodeFault}
 use Rattle.lg_node.specs.declared.node.NodeFault.TheVariants.{Socket, Status, Clock, Refused}
 use Rattle.lg_node.specs.declared.node.Settings.{Settings}
-use Rattle.lg_loops.specs.declared.node_link.NodeLink.{NodeLink}
-use Rattle.lg_loops.specs.declared.shared.TheConstants.{MAX_TURNS}
-use Rattle.lg_loops.specs.Meaning.Turns.{line, LinkValue}
-use Rattle.lg_loops.specs.Meaning.Asking.{Asked}
-use Rattle.lg_loops.specs.Meaning.NodeLinks.{failures_of, link_keys}
-use Rattle.lg_loops.specs.Meaning.Pulling.{plan_of}
-use Rattle.lg_loops.specs.Meaning.BothLoops.{BothRan}
+use Rattle.lg_turns.specs.declared.node_link.NodeLink.{NodeLink}
+use Rattle.lg_turns.specs.declared.shared.TheConstants.{MAX_TURNS}
+use Rattle.lg_turns.specs.Meaning.Turns.{line, LinkValue}
+use Rattle.lg_turns.specs.Meaning.Asking.{Asked}
+use Rattle.lg_turns.specs.Meaning.NodeLinks.{failures_of, link_keys}
+use Rattle.lg_turns.specs.Meaning.Pulling.{plan_of}
+use Rattle.lg_turns.specs.Meaning.BothLoops.{BothRan}
 use Rattle.lg_node.specs.Meaning.Starts.{hosts_of, stall_of, turn_wait, Shows}
-use Rattle.lg_loops.specs.Meaning.Words.{seeded, DrawsEight}
+use Rattle.lg_turns.specs.Meaning.Words.{seeded, DrawsEight}
 
 -- the pass with this seat of an agent that was opened at a moment: it has seen the opening, and made no call
 abbrev pub fresh_own : Config → ℕ → ℕ → PassValue

@@ -2,8 +2,8 @@
 use Rattle.std.specs.Prelude.{◌≡◌, ℕ, false}
 use Rattle.lg_timing.specs.declared.config.Config.{Config}
 use Rattle.lg_agent.specs.Meaning.Values.{PassValue}
-use Rattle.lg_loops.specs.Meaning.Asking.{Asked}
-use Rattle.lg_loops.specs.Meaning.Turns.{LinkValue}
+use Rattle.lg_turns.specs.Meaning.Asking.{Asked}
+use Rattle.lg_turns.specs.Meaning.Turns.{LinkValue}
 use Rattle.lg_node.specs.declared.node.Settings.{Settings}
 use Rattle.lg_node.specs.Meaning.Nodes.{fresh_own, AreLinks}
 

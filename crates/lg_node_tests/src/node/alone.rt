@@ -8,7 +8,8 @@ use super::playing::{Play, Shown};
 use arrayvec::ArrayVec;
 use lg_agent::{AgentName, Pass, Spent};
 use lg_agent_testing::{Case, Ending, Left, Outcome, last_pass};
-use lg_node::{Counters, Ended, LoopEnd, MAX_TURNS, Shared, Side, Why, receive_loop, tick_loop};
+use lg_loops::NodeLoops;
+use lg_node::{Counters, Ended, LoopEnd, MAX_TURNS, ReceivingLoop, Shared, Side, TickingLoop, Why};
 use lg_testing::at;
 use std::alloc::Global;
 use std::sync::Wait;
@@ -133,13 +134,13 @@ fn run_loop<'a, A: AgentName, R: Wait>(
     requires { shared.now.bound ≤ MAX_TURNS }
 {
     match run.runs {
-        Loop::Receiving => receive_loop(shared, side),
+        Loop::Receiving => NodeLoops::receive_loop(shared, side),
         Loop::Ticking { until } => {
             let dice = FixedDice { word: 0 };
             let mut plan = ticks_until(at(until));
             plan.leaves = run.leaves;
             plan.interval_ms = run.lingers_ms;
-            tick_loop(shared, side, dice, plan)
+            NodeLoops::tick_loop(shared, side, dice, plan)
         }
     }
 }

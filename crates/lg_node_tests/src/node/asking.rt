@@ -2,6 +2,7 @@
 //! system gives, so two runs on one machine don't meet.
 use lg_agent::{CloseFault, Closed};
 use lg_detector::Event;
+use lg_loops::NodeLoops;
 use lg_node::{LoopEnd, NodeStart, Settings, Why, run_node};
 use lg_rules::Addr;
 use lg_testing::{Room, at, letter, local};
@@ -127,6 +128,7 @@ where
     let stop = AtomicBool::new(false);
     let (mut unread, mut faults) = (Room::failing(0), Room::failing(0));
     let start = NodeStart {
+        loops: NodeLoops,
         config,
         settings: &settings,
         until: at(0),

@@ -9,6 +9,7 @@ use left_right::Absorb;
 use lg_agent::{AgentName, Pass, Spent};
 use lg_agent_testing::{Case, Ending, Left, Outcome};
 use lg_detector::Event;
+use lg_loops::NodeLoops;
 use lg_node::{
     Both, ChangeSignal, Counters, LoopEnd, PcgDice, ServerSide, Settings, Shared, Side, Sides,
     StatusServer, Watched, Watching, Why, join_threads,
@@ -203,6 +204,7 @@ where
         status,
     } = passes;
     let sides = Sides::of(
+        NodeLoops,
         Side::new(receiver, MeetingLink::new(rt, meeting, run.fails_at[0])),
         Side::new(ticker, MeetingLink::new(rt, meeting, run.fails_at[1])),
         PcgDice::new(0),

@@ -7,8 +7,9 @@ use super::playing::{Play, Shown, told};
 use arrayvec::ArrayVec;
 use lg_agent::{AgentName, Pass, Spent};
 use lg_agent_testing::{Case, Left, Outcome, config, last_pass, spelled};
+use lg_loops::NodeLoops;
 use lg_node::{
-    Ended, Link, LinkFault, LoopEnd, MAX_DATAGRAM, MAX_TURNS, Plan, Side, Why, tick_loop,
+    Ended, Link, LinkFault, LoopEnd, MAX_DATAGRAM, MAX_TURNS, Plan, Side, TickingLoop, Why,
 };
 use lg_rules::{Addr, Claim};
 use lg_testing::{at, failed, local, ping};
@@ -175,7 +176,7 @@ fn run_loop<'a, A: AgentName, R: Wait>(
         page_after: search.page_after,
         pulls: ArrayVec::new(),
     };
-    tick_loop(&shared, Side { pass, link }, search.dice, search.plan())
+    NodeLoops::tick_loop(&shared, Side { pass, link }, search.dice, search.plan())
 }
 
 /// Lets the pass hear who has failed, and runs the loop with it.

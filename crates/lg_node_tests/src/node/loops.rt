@@ -4,8 +4,9 @@ ghost use Rattle.std.specs.Prelude.{◌≡◌, ◌≤◌};
 use super::clocks::{FixedDice, MemoryClock};
 use arrayvec::ArrayVec;
 use lg_agent::{AgentName, Pass};
+use lg_loops::NodeLoops;
 use lg_node::{
-    ChangeSignal, Counters, Ended, Link, MAX_TURNS, Plan, Shared, Side, receive_loop, tick_loop,
+    ChangeSignal, Counters, Ended, Link, MAX_TURNS, Plan, ReceivingLoop, Shared, Side, TickingLoop,
 };
 use lg_rules::Name;
 use lg_testing::at;
@@ -80,7 +81,7 @@ pub(super) fn receive<A: AgentName, R: Wait, L: Link>(
 {
     let noted = Noted::new(false);
     let shared = shared(rt, alloc, clock, stop, &noted, bound, false);
-    receive_loop(&shared, Side { pass, link })
+    NodeLoops::receive_loop(&shared, Side { pass, link })
 }
 
 /// A plan of ticks alone, until a moment. The member doesn't leave then. If it does all the same, it doesn't linger.
@@ -111,5 +112,5 @@ pub(super) fn tick<A: AgentName, R: Wait, L: Link>(
     let noted = Noted::new(false);
     let shared = shared(rt, alloc, clock, stop, &noted, bound, false);
     let dice = FixedDice { word: 0 };
-    tick_loop(&shared, Side { pass, link }, dice, ticks_until(at(until)))
+    NodeLoops::tick_loop(&shared, Side { pass, link }, dice, ticks_until(at(until)))
 }

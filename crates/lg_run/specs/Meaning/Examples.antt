@@ -15,8 +15,8 @@ use Rattle.lg_agent.specs.declared.refusal.CloseFault.{CloseFault}
 use Rattle.lg_agent.specs.declared.refusal.CloseFault.TheVariants.{Missing}
 use Rattle.lg_agent.specs.Meaning.Closing.{ClosedValue}
 use Rattle.lg_config.specs.declared.fault.FileFault.TheVariants.{Value}
-use Rattle.lg_loops.specs.declared.ending.Why.{Why}
-use Rattle.lg_loops.specs.declared.ending.Why.TheVariants.{Stopped, Ousted, LinkFailed, Refused, ReadBound}
+use Rattle.lg_turns.specs.declared.ending.Why.{Why}
+use Rattle.lg_turns.specs.declared.ending.Why.TheVariants.{Stopped, Ousted, LinkFailed, Refused, ReadBound}
 use Rattle.lg_node.specs.declared.node.NodeEnd.{NodeEnd}
 use Rattle.lg_node.specs.declared.node.NodeFault.TheVariants as node
 use Rattle.lg_run.specs.declared.told.Told.TheVariants as told

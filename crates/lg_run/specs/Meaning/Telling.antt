@@ -8,8 +8,8 @@ use Rattle.lg_text.specs.declared.fault.RunFault.{RunFault}
 use Rattle.lg_text.specs.declared.fault.RunFault.TheVariants as fault
 use Rattle.lg_agent.specs.declared.refusal.Refusal.{Refusal}
 use Rattle.lg_agent.specs.declared.refusal.Refusal.TheVariants as refusal
-use Rattle.lg_loops.specs.declared.ending.Why.{Why}
-use Rattle.lg_loops.specs.declared.ending.Why.TheVariants as why
+use Rattle.lg_turns.specs.declared.ending.Why.{Why}
+use Rattle.lg_turns.specs.declared.ending.Why.TheVariants as why
 use Rattle.lg_node.specs.declared.node.NodeEnd.{NodeEnd}
 use Rattle.lg_node.specs.declared.node.NodeFault.{NodeFault}
 use Rattle.lg_node.specs.declared.node.NodeFault.TheVariants as node

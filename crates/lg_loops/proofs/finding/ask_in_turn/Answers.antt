@@ -1,7 +1,7 @@
 use Rattle.std.proofs.Common.{sym, refl, arith, append-nil}
 use Rattle.lg_agent.specs.Meaning.Calls.{receipt_of}
-use Rattle.lg_loops.specs.Meaning.Turns.{Turn}
-use Rattle.lg_loops.specs.Meaning.Turns.Turn.{AskedInTurn, UnaskedInTurn}
+use Rattle.lg_turns.specs.Meaning.Turns.{Turn}
+use Rattle.lg_turns.specs.Meaning.Turns.Turn.{AskedInTurn, UnaskedInTurn}
 use Rattle.lg_loops.proofs.PullingLaws.{agenda_next, seed_time}
 use Rattle.lg_loops.proofs.finding.ask_in_turn.Goals as goal
 

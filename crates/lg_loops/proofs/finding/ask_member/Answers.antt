@@ -3,9 +3,9 @@ use Rattle.std.proofs.lemmas.List.{nil_from_length}
 use Rattle.lg_rules.specs.declared.claim.Claim.{Claim}
 use Rattle.lg_agent.specs.Meaning.Calls.{receipt_of}
 use Rattle.lg_detector.specs.Meaning.Step.{view_after}
-use Rattle.lg_loops.specs.Meaning.Turns.{Turn}
-use Rattle.lg_loops.specs.Meaning.Turns.Turn.{AskedMember, UnaskedMember, FoundNobody, Unfound}
-use Rattle.lg_loops.specs.Meaning.Pulling.{others_of, IsChosen}
+use Rattle.lg_turns.specs.Meaning.Turns.{Turn}
+use Rattle.lg_turns.specs.Meaning.Turns.Turn.{AskedMember, UnaskedMember, FoundNobody, Unfound}
+use Rattle.lg_turns.specs.Meaning.Pulling.{others_of, IsChosen}
 use Rattle.lg_loops.proofs.PullingLaws.{agenda_next, member_time}
 use Rattle.lg_loops.proofs.finding.ask_member.Goals as goal
 

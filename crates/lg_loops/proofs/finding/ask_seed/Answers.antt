@@ -1,7 +1,7 @@
 use Rattle.std.proofs.Common.{sym, refl, arith, append-nil}
 use Rattle.lg_agent.specs.Meaning.Calls.{receipt_of}
-use Rattle.lg_loops.specs.Meaning.Turns.{Turn}
-use Rattle.lg_loops.specs.Meaning.Turns.Turn.{AskedSeed, UnaskedSeed}
+use Rattle.lg_turns.specs.Meaning.Turns.{Turn}
+use Rattle.lg_turns.specs.Meaning.Turns.Turn.{AskedSeed, UnaskedSeed}
 use Rattle.lg_loops.proofs.PullingLaws.{seed_first, seed_noted}
 use Rattle.lg_loops.proofs.finding.ask_seed.Goals as goal
 

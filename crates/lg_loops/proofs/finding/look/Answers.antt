@@ -1,8 +1,8 @@
 use Rattle.std.proofs.Common.{◌∙◌, ap, sym, refl, arith, append-nil}
 use Rattle.std.specs.List.{list_all}
-use Rattle.lg_loops.specs.Meaning.Turns.{Turn}
-use Rattle.lg_loops.specs.Meaning.Turns.Turn.{Looked, Unlooked}
-use Rattle.lg_loops.specs.Meaning.Pulling.{has_gone}
+use Rattle.lg_turns.specs.Meaning.Turns.{Turn}
+use Rattle.lg_turns.specs.Meaning.Turns.Turn.{Looked, Unlooked}
+use Rattle.lg_turns.specs.Meaning.Pulling.{has_gone}
 use Rattle.lg_loops.proofs.PullingLaws.{look_time, look_noted, no_look_noted}
 use Rattle.lg_loops.proofs.finding.look.Goals as goal
 

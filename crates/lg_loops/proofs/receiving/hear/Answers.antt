@@ -2,10 +2,10 @@ use Rattle.std.proofs.Common.{◌∷◌, ◌++◌, [], ap, sym, ◌∙◌, refl,
 use Rattle.std.specs.Prelude.{Err}
 use Rattle.lg_detector.specs.declared.reply.Reply.{Reply}
 use Rattle.lg_agent.specs.Meaning.Calls.{receipt_of}
-use Rattle.lg_loops.specs.Meaning.Links.{LinkEvent, handed}
-use Rattle.lg_loops.specs.Meaning.Links.LinkEvent.{Received}
-use Rattle.lg_loops.specs.Meaning.Turns.{receives}
-use Rattle.lg_loops.specs.Meaning.Turns.Turn.{Heard, Dropped, Unheard}
+use Rattle.lg_turns.specs.Meaning.Links.{LinkEvent, handed}
+use Rattle.lg_turns.specs.Meaning.Links.LinkEvent.{Received}
+use Rattle.lg_turns.specs.Meaning.Turns.{receives}
+use Rattle.lg_turns.specs.Meaning.Turns.Turn.{Heard, Dropped, Unheard}
 use Rattle.lg_loops.proofs.receiving.hear.Goals as goal
 
 pub returns-after-ne : goal.returns-after-ne

@@ -1,9 +1,9 @@
 use Rattle.std.proofs.Common.{◌∷◌, ◌++◌, [], ap, sym, ◌∙◌, eq-eqb, refl, arith, ℕ}
 use Rattle.std.specs.Prelude.{Option, Ok}
 use Rattle.lg_rules.specs.declared.addr.Addr.{Addr}
-use Rattle.lg_loops.specs.Meaning.Links.{reception}
-use Rattle.lg_loops.specs.Meaning.Turns.{receives}
-use Rattle.lg_loops.specs.Meaning.Turns.Turn.{Quiet, Broken}
+use Rattle.lg_turns.specs.Meaning.Links.{reception}
+use Rattle.lg_turns.specs.Meaning.Turns.{receives}
+use Rattle.lg_turns.specs.Meaning.Turns.Turn.{Quiet, Broken}
 use Rattle.lg_loops.proofs.receiving.receive_turn.Goals as goal
 
 pub returns-in-Ok-None : goal.returns-in-Ok-None

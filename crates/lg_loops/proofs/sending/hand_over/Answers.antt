@@ -1,7 +1,7 @@
 use Rattle.std.proofs.Common.{ℕ, ◌≤◌, Bool, not, List, length, arith}
 use Rattle.std.proofs.lemmas.List.Sums.{count_by-le-length}
 use Rattle.lg_detector.specs.declared.reply.Outgoing.{Outgoing}
-use Rattle.lg_loops.specs.Meaning.Links.{LinkEvent, WereHanded}
+use Rattle.lg_turns.specs.Meaning.Links.{LinkEvent, WereHanded}
 use Rattle.lg_loops.proofs.sending.hand_over.Goals as goal
 
 -- not more packets are lost than are handed over

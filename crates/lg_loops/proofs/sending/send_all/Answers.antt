@@ -3,8 +3,8 @@ use Rattle.std.specs.Prelude.{is_ok}
 use Rattle.std.proofs.lemmas.List.{take_more}
 use Rattle.lg_packet.specs.Meaning.Spelling.{spelling}
 use Rattle.lg_detector.specs.declared.reply.Outgoing.{Outgoing}
-use Rattle.lg_loops.specs.Meaning.Links.{LinkEvent, lost}
-use Rattle.lg_loops.specs.Meaning.Links.LinkEvent.{Handed}
+use Rattle.lg_turns.specs.Meaning.Links.{LinkEvent, lost}
+use Rattle.lg_turns.specs.Meaning.Links.LinkEvent.{Handed}
 use Rattle.lg_loops.proofs.SendingLaws.{one_handed, lost_if, lost_one}
 use Rattle.lg_loops.proofs.sending.send_all.Goals.{then-is_err, else-is_err}
 use Rattle.lg_loops.proofs.sending.send_all.Goals as goal

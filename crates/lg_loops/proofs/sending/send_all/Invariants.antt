@@ -1,5 +1,5 @@
 use Rattle.std.proofs.Common.{◌≤◌, take}
-use Rattle.lg_loops.specs.Meaning.Links.{WereHanded}
+use Rattle.lg_turns.specs.Meaning.Links.{WereHanded}
 use Rattle.lg_loops.proofs.sending.send_all.Given as goal
 
 abbrev pub invariant-loop-outgoing : goal.invariant-loop-outgoing

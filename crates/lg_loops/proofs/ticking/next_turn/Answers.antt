@@ -1,6 +1,6 @@
 use Rattle.std.proofs.Common.{sym, refl, arith, append-nil}
-use Rattle.lg_loops.specs.Meaning.Turns.{Turn, SeesNoneDue}
-use Rattle.lg_loops.specs.Meaning.Turns.Turn.{Paused, Unseen}
+use Rattle.lg_turns.specs.Meaning.Turns.{Turn, SeesNoneDue}
+use Rattle.lg_turns.specs.Meaning.Turns.Turn.{Paused, Unseen}
 use Rattle.lg_loops.proofs.PullingLaws.{agenda_same, idle_time}
 use Rattle.lg_loops.proofs.ticking.next_turn.Goals as goal
 

@@ -1,6 +1,6 @@
 use Rattle.std.proofs.Common.{◌≡◌, [], refl}
-use Rattle.lg_loops.specs.Meaning.Turns.{line}
-use Rattle.lg_loops.specs.Meaning.NodeLinks.{failures_of}
+use Rattle.lg_turns.specs.Meaning.Turns.{line}
+use Rattle.lg_turns.specs.Meaning.NodeLinks.{failures_of}
 use Rattle.lg_node.proofs.EarlyLaws.{refused_early}
 use Rattle.lg_node.proofs.beginning.begin.Goals as goal
 

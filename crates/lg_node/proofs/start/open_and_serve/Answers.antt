@@ -1,6 +1,6 @@
 use Rattle.std.proofs.Common.{[], rules}
-use Rattle.lg_loops.specs.Meaning.Turns.{line}
-use Rattle.lg_loops.specs.Meaning.NodeLinks.{failures_of}
+use Rattle.lg_turns.specs.Meaning.Turns.{line}
+use Rattle.lg_turns.specs.Meaning.NodeLinks.{failures_of}
 use Rattle.lg_node.proofs.start.open_and_serve.Goals as goal
 
 pub returns-clause-ran : goal.returns-clause-ran
