@@ -13,15 +13,17 @@ from fuzzing.wire import is_name
 MOST_BYTES = 65_536
 MOST_DEPTH = 80
 SYNTAX, KEY, VALUE = 12, 13, 14
-STATUS, STATUS_OPEN, STATUS_NOT_LOOPBACK, KEY_FILE = 18, 19, 20, 21
+STATUS, STATUS_OPEN, STATUS_NOT_LOOPBACK, KEY_FILE, LEAVE = 18, 19, 20, 21, 27
 TEXT_KEYS = ("name", "address", "key_file", "group")
 INTEGER_KEYS = ("port", "dice")
+# Keys of which a value of another type is a fault of its own.
+ANY_KEYS = ("status", "status_open", "leave")
 # Of the node's own numbers: the least, the greatest, the default and the number of the fault.
 OWN_NUMBERS = {"pull_ms": (0, 3_600_000, 30_000, 16), "stall_ms": (0, 60_000, 100, 17)}
 DEFAULT_TEXTS = {"address": "127.0.0.1", "port": 7946}
 # The configuration's numbers that a file may have: all but the first number of a probe.
 FILE_NUMBERS = {key: row for key, row in NUMBERS.items() if key != "first"}
-KEYS = {*TEXT_KEYS, *INTEGER_KEYS, *FILE_NUMBERS, *OWN_NUMBERS, "seeds", "status", "status_open"}
+KEYS = {*TEXT_KEYS, *INTEGER_KEYS, *ANY_KEYS, *FILE_NUMBERS, *OWN_NUMBERS, "seeds"}
 SHOWN_MEMBERS = (4, 16, 64, 256)
 # What TOML 1.1 or another reader of dates may take though Python's reader doesn't.
 UNSURE = re.compile(rb"\\[ex]|\{|\d\d:\d\d|\d{4}-\d\d|^\xef\xbb\xbf")
@@ -71,12 +73,12 @@ def document_of(data):
 
 
 def is_of_type(key, value):
-    """Whether a value is of the type that its key needs. Those of the status server are judged later."""
+    """Whether a value is of the type that its key needs. Those of some keys are judged later."""
     if key in TEXT_KEYS:
         return isinstance(value, str)
     if key == "seeds":
         return isinstance(value, list) and all(isinstance(it, str) for it in value)
-    return key in ("status", "status_open") or type(value) is int
+    return key in ANY_KEYS or type(value) is int
 
 
 # ---- Texts
@@ -148,6 +150,13 @@ def group_of(document):
     return group
 
 
+def leave_of(document):
+    """Whether a request may end the node."""
+    leave = document.get("leave", "on")
+    must(isinstance(leave, str) and leave in ("on", "off"), LEAVE)
+    return leave
+
+
 def own_dice(name, address, port):
     """The number that the dice of a member start from if its file doesn't say it."""
     digest = hashlib.sha256(name.encode() + b"\0" + bytes(address) + port.to_bytes(2, "big")).digest()
@@ -172,18 +181,20 @@ def meaning_of(document):
     values["key_file"] = key_file_of(document)
     must(fault is None, fault)
     values["group"] = group_of(document)
+    values["leave"] = leave_of(document)
     return values | {"address": ".".join(map(str, address)), "seeds": seeds}
 
 
 def shown(values):
     """The lines of `lg check`."""
     order = ["name", "address", "port", "dice", "seeds", *FILE_NUMBERS, *OWN_NUMBERS, "status", "status_open",
-             "key_file", "group"]
+             "leave", "key_file", "group"]
     seeds = ", ".join(f"{name}@{place_text(place)}" for name, place in values["seeds"])
     texts = values | {"seeds": seeds or "none", "status": place_text(values["status"]) if values["status"] else "none",
                       "status_open": str(values["status_open"]).lower(), "key_file": values["key_file"] or "none",
                       "group": values["group"] or "none"}
-    defaults = DEFAULT_TEXTS | {"dice": values["own_dice"]} | numbers_of({}) | {"seeds": "none", "status": "none", "status_open": "false"}
+    defaults = DEFAULT_TEXTS | {"dice": values["own_dice"]} | numbers_of({}) | {"seeds": "none", "status": "none", "status_open": "false",
+                                                                              "leave": "on"}
     defaults |= {key: "none" for key in ("key_file", "group") if not values[key]}
     lines = [f"{key} = {texts[key]}{' (default)' if texts[key] == defaults.get(key) else ''}" for key in order]
     for live in SHOWN_MEMBERS:

@@ -9,6 +9,7 @@ NAMES = ["b", "a", "c", "A.z_-9", "n" * 32, "n" * 33, "", "a b", "é", "a@b", "-
 ROWS = files.FILE_NUMBERS | files.OWN_NUMBERS | {"port": (1, 65535, 7946), "dice": (0, 2**63 - 1, 1)}
 OCTETS = ["0", "1", "7", "127", "010", "255", "256", "0" * 14 + "10", "0" * 15 + "10", "", "-1", "+1", " 1", "1e1"]
 PATHS = ["group.key", "", "x" * 255, "x" * 256, "a\nb", "\x7f", "é", "/a b/~", "none"]
+SWITCHES = ["on", "off", "On", "", "true", "on "]
 PORTS = ["1", "7946", "65535", "65536", "0", "00001", "", "x", "-1"]
 # Values of each TOML type and spelling, right or wrong at any key.
 VALUES = [
@@ -73,7 +74,8 @@ def seeds(dice):
 
 def right_value(dice, key):
     """A value for a key that is no fault, whatever else the file has."""
-    texts = {"name": "b", "address": "127.0.0.1", "status": dice.choice(["127.0.0.1:8946", "127.9.0.10:1"])}
+    texts = {"name": "b", "address": "127.0.0.1", "status": dice.choice(["127.0.0.1:8946", "127.9.0.10:1"]),
+             "leave": dice.choice(["on", "off"])}
     plain = {"seeds": "[]", "status_open": dice.choice(["true", "false"])}
     if key in ROWS:
         least, most, default = ROWS[key][:3]
@@ -90,6 +92,7 @@ def wild_value(dice, key):
         return whole_number(dice, number_near(dice, ROWS[key]))
     made = {"name": lambda: spelled(dice, dice.choice(NAMES)), "address": lambda: spelled(dice, address(dice)),
             "seeds": lambda: seeds(dice), "status": lambda: spelled(dice, place(dice)),
+            "leave": lambda: spelled(dice, dice.choice(SWITCHES)),
             "key_file": lambda: spelled(dice, dice.choice(PATHS)), "group": lambda: spelled(dice, dice.choice(NAMES))}
     return made.get(key, lambda: dice.choice(["true", "false", *VALUES]))()
 
@@ -110,7 +113,7 @@ class Files(RunKind):
     wrong_rules = (
         (files, "MOST_DEPTH", 0), (files, "TEXT_KEYS", ("name",)), (files, "SYNTAX", 13), (files, "VALUE", 11),
         (files, "SHOWN_MEMBERS", (4, 16, 32, 256)), (files, "STATUS_NOT_LOOPBACK", 19),
-        (files, "KEY_FILE", 20), (files, "GROUP_FAULT", 25),
+        (files, "KEY_FILE", 20), (files, "GROUP_FAULT", 25), (files, "LEAVE", 26),
         (files, "OWN_NUMBERS", files.OWN_NUMBERS | {"pull_ms": (1, 3_600_000, 30_000, 16)}),
         (numbers, "MOST_SEEDS", 15), (numbers, "MAY_BE_OFF", ()),
         (numbers, "RATIOS", [[900], [0, 1000], *numbers.RATIOS[2:]]))

@@ -8,8 +8,8 @@ ghost use Rattle.lg_timing.specs.Meaning.Config.{IsChecked};
 ghost use Rattle.lg_check.specs.Meaning.Checks.{check_text, group_line, group_sizes, member_line, own_line};
 
 use crate::lines::{
-    put_address, put_group, put_group_name, put_key_file, put_member, put_own, put_server,
-    put_start,
+    put_address, put_group, put_group_name, put_key_file, put_leave, put_member, put_own,
+    put_server, put_start,
 };
 use lg_config::{FILE_KEYS, NODE_KEYS, NodeConfig, NodeKey};
 use lg_timing::{Config, Key};
@@ -55,7 +55,7 @@ fn put_groups(config: &Config, text: &mut String) -> Result<(), AllocError>
 /// (Lifeguard, local health aware suspicion). The forms are this project's choice.
 ///
 /// The configuration has to be checked. The only error is that memory was refused. Memory is allocated for the text,
-/// which has 29 lines.
+/// which has 30 lines.
 #[tactic(auto, unfolding(crate::specs::Meaning::Checks::check_text))]
 pub fn check_text(alloc: Global, node: &NodeConfig) -> Result<String, AllocError>
     requires { IsChecked node.now.config }
@@ -67,6 +67,7 @@ pub fn check_text(alloc: Global, node: &NodeConfig) -> Result<String, AllocError
     put_members(&node.config, &FILE_KEYS, &mut text)?;
     put_owns(node, &NODE_KEYS, &mut text)?;
     put_server(alloc, node, &mut text)?;
+    put_leave(node.leave, &mut text)?;
     put_key_file(&node.key_file, &mut text)?;
     put_group_name(&node.config.group, &mut text)?;
     put_groups(&node.config, &mut text)?;

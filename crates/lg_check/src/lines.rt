@@ -6,11 +6,11 @@ ghost use Rattle.std.specs.Prelude.{◌≡◌, ◌≤◌, ◌++◌, OnOk, string
 ghost use Rattle.lg_timing.specs.Meaning.Config.{IsChecked};
 ghost use Rattle.lg_check.specs.Meaning.Checks.{address_lines, default_mark, group_line, key_line, listening_line};
 ghost use Rattle.lg_check.specs.Meaning.Checks.{key_file_line, member_line, number_line, own_line, server_lines};
-ghost use Rattle.lg_check.specs.Meaning.Checks.{group_name_line, start_lines, status_open_line, times_line};
+ghost use Rattle.lg_check.specs.Meaning.Checks.{group_name_line, leave_line, start_lines, status_open_line, times_line};
 
 use crate::spelling::{
-    group_spelled, ip_text, path_spelled, seeds_spelled, status_spelled, text_of_name,
-    truth_spelled,
+    group_spelled, ip_text, path_spelled, seeds_spelled, status_spelled, switch_spelled,
+    text_of_name, truth_spelled,
 };
 use lg_config::{DEFAULT_ADDRESS, DEFAULT_PORT, FilePath, NodeConfig, NodeKey, own_dice};
 use lg_rules::{Addr, Name};
@@ -110,6 +110,13 @@ pub(crate) fn put_server(
 {
     put_listening(alloc, node.status, text)?;
     put_status_open(node.status_open, text)
+}
+
+/// Appends the line of whether a request may end the node to a text.
+pub(crate) fn put_leave(leave: bool, text: &mut String) -> Result<(), AllocError>
+    ensures { OnOk result (string_bytes text.new ≡ string_bytes text.old ++ leave_line leave) }
+{
+    put_key("leave", switch_spelled(leave), leave, text)
 }
 
 /// Appends the line of the path of the key file to a text.

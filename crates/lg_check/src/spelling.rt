@@ -1,4 +1,4 @@
-//! Spells names, addresses, seeds, paths, groups and truth values.
+//! Spells names, addresses, seeds, paths, groups, truth values and whether something is on.
 //!
 //! Defined in: `specs/Meaning/Spelling.antt`, `lg_text/specs/Meaning/Addresses.antt`.
 //! Tested in: `cases/check.case`.
@@ -6,7 +6,7 @@ ghost use Rattle.std.specs.Prelude.{◌≡◌, ◌++◌, IfOk, OnOk, string_byte
 ghost use Rattle.std.specs.List.{flat_map};
 ghost use Rattle.lg_text.specs.Meaning.Addresses.{addr_text, ip_text};
 ghost use Rattle.lg_check.specs.Meaning.Spelling.{next_seed, seed_spelled, seeds_spelled, status_spelled};
-ghost use Rattle.lg_check.specs.Meaning.Spelling.{group_spelled, path_spelled, truth_spelled};
+ghost use Rattle.lg_check.specs.Meaning.Spelling.{group_spelled, path_spelled, switch_spelled, truth_spelled};
 
 use lg_config::FilePath;
 use lg_rules::{Addr, Ip, Name};
@@ -107,6 +107,13 @@ pub(crate) fn group_spelled(group: &Option<Name>) -> &str
         None => "none",
         Some(name) => text_of_name(name),
     }
+}
+
+/// The word for something that is on, or off.
+pub(crate) fn switch_spelled(is_on: bool) -> &'static str
+    ensures { result.now ≡ switch_spelled is_on }
+{
+    if is_on { "on" } else { "off" }
 }
 
 /// The text of a truth value.

@@ -25,6 +25,8 @@ struct Row {
     key_file: Option<&'static str>,
     /// The name of the group.
     group: Option<&'static [u8]>,
+    /// Whether a request may end the node.
+    leave: bool,
 }
 
 /// The numbers of a file that gives none.
@@ -56,6 +58,7 @@ status = \"10.1.2.3:8946\"
 status_open = true
 key_file = \"/etc/lg/group.key\"
 group = \"grn\"
+leave = \"off\"
 seeds = [\"c@127.0.0.1:7002\", \"a@1.2.3.4:5\"]
 ";
 
@@ -85,6 +88,7 @@ fn is_of(node: &NodeConfig, row: &Row) -> bool {
         && (node.status, node.status_open) == row.status
         && node.key_file.as_ref().map(|path| path.as_str()) == row.key_file
         && config.group == row.group.map(|letters| name(letters))
+        && node.leave == row.leave
         && config.first == 1
         && config.seeds.len() == row.seeds.len()
         && config.seeds.iter().zip(row.seeds).all(|(seed, known)| {
@@ -94,7 +98,8 @@ fn is_of(node: &NodeConfig, row: &Row) -> bool {
 
 /// Each value of some files: one with only its name, one that writes the defaults, one with all keys, one at the other
 /// edges of the node's own numbers, one with the last address of loopback for its status server, one that would allow
-/// any but has no such server, and one whose address and port the program can't have.
+/// any but has no such server, one that lets a request end the node, and one whose address and port the program can't
+/// have.
 #[test]
 fn each_value(rt: HostRuntime) {
     let alone = Row {
@@ -108,6 +113,7 @@ fn each_value(rt: HostRuntime) {
         status: (None, false),
         key_file: None,
         group: None,
+        leave: true,
     };
     let rows = [
         alone,
@@ -127,6 +133,7 @@ fn each_value(rt: HostRuntime) {
             status: (Some(Addr::v4([10, 1, 2, 3], 8946)), true),
             key_file: Some("/etc/lg/group.key"),
             group: Some(b"grn"),
+            leave: false,
         },
         Row {
             text: "name = \"b\"\npull_ms = 0\nstall_ms = 60000",
@@ -141,6 +148,10 @@ fn each_value(rt: HostRuntime) {
         Row {
             text: "name = \"b\"\nstatus_open = true",
             status: (None, true),
+            ..alone
+        },
+        Row {
+            text: "name = \"b\"\nleave = \"on\"",
             ..alone
         },
         Row {

@@ -169,6 +169,7 @@ const FILES: &[(FileFault, &str)] = &[
         FileFault::KeyFile,
         "key_file has to have 1 to 255 bytes of printable ASCII",
     ),
+    (FileFault::Leave, "leave has to be \"on\" or \"off\""),
 ];
 
 const READS: &[(ReadFault, &str)] = &[

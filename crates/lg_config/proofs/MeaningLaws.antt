@@ -20,11 +20,12 @@ use Rattle.lg_config.specs.declared.fault.FileFault.TheVariants as fault
 use Rattle.lg_config.specs.declared.node.NodeConfig.{NodeConfig}
 use Rattle.lg_config.specs.declared.node_keys.NodeKey.{NodeKey}
 use Rattle.lg_config.specs.declared.node_keys.NodeKey.TheVariants.{PullMs, StallMs}
-use Rattle.lg_config.specs.Meaning.Answer.{and_group, and_key_file, and_late, and_status, is_late, meaning_of, unless_broken, unless_config, unless_late, unless_node}
+use Rattle.lg_config.specs.Meaning.Answer.{and_group, and_key_file, and_late, and_leave, and_status, is_late, late_meaning_of, meaning_of, unless_broken, unless_config, unless_late, unless_node}
 use Rattle.lg_config.specs.Meaning.Dice.{own_dice}
 use Rattle.lg_config.specs.Meaning.Groups.{group_in, with_group}
 use Rattle.lg_config.specs.Meaning.KeyFiles.{key_file_in, with_key_file}
 use Rattle.lg_config.specs.Meaning.Keys.{are_right_keys}
+use Rattle.lg_config.specs.Meaning.Leaves.{leave_in, with_leave}
 use Rattle.lg_config.specs.Meaning.NodeKeys.{own_broken}
 use Rattle.lg_config.specs.Meaning.Status.{may_listen, open_in, status_addr_in, with_status}
 use Rattle.lg_config.specs.Meaning.Settings.{addr_in, dice_in, name_in, seeds_at, seeds_of_items, settings_of}
@@ -64,7 +65,7 @@ unfolding settings_of
 settings-seeds m node is = go (name_in m) (addr_in m) (dice_in m) (seeds_of_items (seeds_at m)) is
   where
     go : (name : Option (List ℕ)) (addr : Option Addr) (dice : Option (Option ℕ)) (seeds : Option (List Seed))
-        → option_and_then (λ n. option_and_then (λ a. option_and_then (λ d. option_and_then (λ ss. Some (let made : NodeConfig = record { config = with_seeds ss (with_numbers m (defaults n a)); dice = unwrap_or d (own_dice n a); pull_ms = own_number_in PullMs m; stall_ms = own_number_in StallMs m; status = None; status_open = false; key_file = None } in made)) seeds) dice) addr) name ≡ Some node
+        → option_and_then (λ n. option_and_then (λ a. option_and_then (λ d. option_and_then (λ ss. Some (let made : NodeConfig = record { config = with_seeds ss (with_numbers m (defaults n a)); dice = unwrap_or d (own_dice n a); pull_ms = own_number_in PullMs m; stall_ms = own_number_in StallMs m; status = None; status_open = false; key_file = None; leave = true } in made)) seeds) dice) addr) name ≡ Some node
         → seeds ≡ Some node.config.seeds.items
     go None addr dice seeds e = absurd cc
     go (Some n) None dice seeds e = absurd cc
@@ -121,6 +122,18 @@ judged-few m first vs found same few = go (settings_of m) refl found
     go (Some node) s e =
         let within : length node.config.seeds.items ≤ most_seeds = omega (arith, few, settings-counted m node vs same s) in
         ap (λ n. unless_config n (check_of n.config)) (same_Some _ _ e ∙ few-kept node within)
+
+-- ---- what holds of settings, whatever they say of leaving, is kept
+
+leave-kept : (P : NodeConfig → Type 0) → ((node : NodeConfig) (leave : Bool) → P node → P (record node { leave = leave }))
+    → (node : NodeConfig) (leave : Result Bool FileFault) → P node → IfOk (with_leave node leave) P
+leave-kept P same node (Err found) holds = tt
+leave-kept P same node (Ok leave) holds = same node leave holds
+
+and_leave-kept : (P : NodeConfig → Type 0) → ((node : NodeConfig) (leave : Bool) → P node → P (record node { leave = leave }))
+    → (m : Members) (r : Result NodeConfig FileFault) → IfOk r P → IfOk (and_leave m r) P
+and_leave-kept P same m (Err found) holds = tt
+and_leave-kept P same m (Ok node) holds = leave-kept P same node (leave_in m) holds
 
 -- ---- the node's own numbers of a configuration that is given are in their ranges
 
@@ -186,9 +199,14 @@ within-if_right : (m : Members) (right : Bool) (r : Result NodeConfig FileFault)
 within-if_right m true r within = within
 within-if_right m false r within = tt
 
+within-late_meaning : (m : Members) → IfOk (late_meaning_of m) HasWithin
+within-late_meaning m =
+    within-and_late _ (within-and_group m _ (within-and_late _ (within-and_key_file m _ (within-and_status m _ (within-node (settings_of m))))))
+
 pub within-meaning : (m : Members) → IfOk (meaning_of m) HasWithin
 within-meaning m =
-    within-if_right m (are_right_keys m) _ (within-and_late _ (within-and_group m _ (within-and_late _ (within-and_key_file m _ (within-and_status m _ (within-node (settings_of m)))))))
+    within-if_right m (are_right_keys m) (and_leave m (late_meaning_of m))
+    (and_leave-kept HasWithin (λ node leave within. within) m (late_meaning_of m) (within-late_meaning m))
 
 -- ---- and the status server of a configuration that is given may listen where it is to
 
@@ -238,9 +256,14 @@ guarded-if_right : (right : Bool) (r : Result NodeConfig FileFault) → IfOk r I
 guarded-if_right true r guarded = guarded
 guarded-if_right false r guarded = tt
 
+guarded-late_meaning : (m : Members) → IfOk (late_meaning_of m) IsGuarded
+guarded-late_meaning m =
+    guarded-and_late _ (guarded-and_group m _ (guarded-and_late _ (guarded-and_key_file m _ (guarded-and_status m (unless_node (settings_of m))))))
+
 pub guarded-meaning : (m : Members) → IfOk (meaning_of m) IsGuarded
 guarded-meaning m =
-    guarded-if_right (are_right_keys m) _ (guarded-and_late _ (guarded-and_group m _ (guarded-and_late _ (guarded-and_key_file m _ (guarded-and_status m (unless_node (settings_of m)))))))
+    guarded-if_right (are_right_keys m) (and_leave m (late_meaning_of m))
+    (and_leave-kept IsGuarded (λ node leave guarded. guarded) m (late_meaning_of m) (guarded-late_meaning m))
 
 -- ---- and the member's configuration passes its check
 
@@ -261,4 +284,6 @@ passed-if_right false r passed = tt
 
 pub passed-meaning : (m : Members) → IfOk (meaning_of m) HasPassed
 passed-meaning m =
-    passed-if_right (are_right_keys m) _ (passed-and_late (and_group m (and_late (and_key_file m (and_status m (unless_node (settings_of m)))))))
+    passed-if_right (are_right_keys m) (and_leave m (late_meaning_of m))
+    (and_leave-kept HasPassed (λ node leave passed. passed) m (late_meaning_of m)
+    (passed-and_late (and_group m (and_late (and_key_file m (and_status m (unless_node (settings_of m))))))))

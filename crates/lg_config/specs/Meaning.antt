@@ -12,6 +12,9 @@ pub mod KeyFiles
 pub mod KeyReasons
 pub mod Keys
 pub mod LateExamples
+pub mod LeaveExamples
+pub mod LeaveReasons
+pub mod Leaves
 pub mod NearestKeys
 pub mod NodeKeys
 pub mod Quoting

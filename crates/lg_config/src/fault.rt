@@ -23,7 +23,7 @@ pub enum FileFault {
     #[error("the file has to be TOML in UTF-8, of at most {most} bytes", most = MAX_FILE)]
     Syntax,
     /// A key is unknown, the name is missing, or a value is of another TOML type than its key wants. The values of
-    /// `status` and `status_open` have faults of their own.
+    /// `status`, `status_open` and `leave` have faults of their own.
     #[error("a key is unknown or has a value of another type, or the name is missing")]
     Key,
     /// A name, an address, a port or a seed is out of its form, or the dice are negative.
@@ -47,10 +47,13 @@ pub enum FileFault {
     /// `key_file` has no bytes, more than 255, or one that isn't printable ASCII.
     #[error("key_file has to have 1 to {most} bytes of printable ASCII", most = MAX_PATH)]
     KeyFile,
+    /// `leave` is no text, or neither `on` nor `off`.
+    #[error("leave has to be \"on\" or \"off\"")]
+    Leave,
 }
 
 impl FileFault {
-    /// The number of the fault: that of [`ConfigFault::number`], or 12, 13, 14 or 16 to 21 for the others.
+    /// The number of the fault: that of [`ConfigFault::number`], or 12, 13, 14, 16 to 21 or 27 for the others.
     pub fn number(self) -> u8
         ensures { result ≡ fault_number self }
     {
@@ -65,6 +68,7 @@ impl FileFault {
             FileFault::StatusOpen => 19,
             FileFault::StatusNotLoopback => 20,
             FileFault::KeyFile => 21,
+            FileFault::Leave => 27,
         }
     }
 }

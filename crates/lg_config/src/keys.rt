@@ -43,6 +43,9 @@ pub(crate) const STATUS: &str = "status";
 /// The key of whether the status server may listen at an address that isn't loopback.
 pub(crate) const STATUS_OPEN: &str = "status_open";
 
+/// The key of whether a request may end the node.
+pub(crate) const LEAVE: &str = "leave";
+
 /// The keys of the numbers of the member's that a file may give, in the order in which they are judged: all but
 /// [`Key::First`].
 pub const FILE_KEYS: [Key; 14] = [
@@ -86,7 +89,7 @@ pub(crate) fn kind_of(key: &str) -> Option<Kind>
         "name" | "address" | "key_file" | "group" => Some(Kind::Text),
         "port" | "dice" => Some(Kind::Number),
         "seeds" => Some(Kind::Texts),
-        "status" | "status_open" => Some(Kind::Any),
+        "status" | "status_open" | "leave" => Some(Kind::Any),
         _ if file_key_named(key.as_bytes()).is_some() => Some(Kind::Number),
         _ if NodeKey::named(key.as_bytes()).is_some() => Some(Kind::Number),
         _ => None,

@@ -14,6 +14,8 @@ mod group_reasons;
 mod key_file;
 mod key_reasons;
 mod keys;
+mod leave;
+mod leave_reasons;
 mod lookup;
 mod nearest;
 mod node;

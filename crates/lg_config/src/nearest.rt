@@ -14,7 +14,7 @@ use strsim::generic_levenshtein;
 const MAX_EDITS: usize = 3;
 
 /// All known keys, in the order in which `docs/FORMATS.md` has them.
-const KNOWN_KEYS: [&str; 25] = [
+const KNOWN_KEYS: [&str; 26] = [
     "name",
     "address",
     "port",
@@ -23,6 +23,7 @@ const KNOWN_KEYS: [&str; 25] = [
     "stall_ms",
     "status",
     "status_open",
+    "leave",
     "key_file",
     "group",
     "seeds",

@@ -16,6 +16,7 @@ use crate::fault::{FileFault, ReadFault};
 use crate::group::with_group;
 use crate::key_file::{FilePath, with_key_file};
 use crate::keys::are_right_keys;
+use crate::leave::with_leave;
 use crate::lookup::seeds_at;
 use crate::node_keys::{NODE_KEYS, NodeKey};
 use crate::settings::settings_in;
@@ -45,6 +46,8 @@ pub struct NodeConfig {
     pub status_open: bool,
     /// The path of its key file, which has the keys of its group. None if the group has no key.
     pub key_file: Option<FilePath>,
+    /// Whether the request `POST /v1/leave` may end the node.
+    pub leave: bool,
 }
 
 /// The fault of a table with too many seeds, given what the check of a configuration with the first of them found. The
@@ -103,8 +106,8 @@ fn unless_late(node: NodeConfig) -> Result<NodeConfig, FileFault>
     }
 }
 
-/// The settings of a table whose keys are right, or their fault. The status server, the path of the key file and the
-/// group aren't read yet, and the faults that count last aren't judged.
+/// The settings of a table whose keys are right, or their fault. The status server, the path of the key file, the group
+/// and leaving aren't read yet, and the faults that count last aren't judged.
 fn judged_in(table: &Table) -> Result<NodeConfig, FileFault>
     ensures { result ≡ unless_node (settings_of (table_view table.now)) }
 {
@@ -128,7 +131,8 @@ fn meaning_in(table: &Table) -> Result<NodeConfig, FileFault>
     let node = with_key_file(table, node)?;
     let node = unless_late(node)?;
     let node = with_group(table, node)?;
-    unless_late(node)
+    let node = unless_late(node)?;
+    with_leave(table, node)
 }
 
 impl NodeConfig {
@@ -159,11 +163,12 @@ impl NodeConfig {
     ///
     /// The file is TOML. Its keys are `name`, which it must have, `address`, `port`, `dice`, `seeds`, the numbers of
     /// [`Config`] but for `first`, and those of [`NodeKey`], by the names of their fields, `status`, `status_open`,
-    /// `key_file` and `group`. The error is [`ReadFault::File`] with the first of these: [`FileFault::Syntax`],
-    /// [`FileFault::Key`], [`FileFault::Value`], [`FileFault::Config`], [`FileFault::Pull`], [`FileFault::Stall`],
-    /// [`FileFault::Status`], [`FileFault::StatusOpen`], [`FileFault::StatusNotLoopback`] and [`FileFault::KeyFile`].
-    /// A [`FileFault::Config`] whose number is greater than that of `KeyFile` comes behind all of these. Or the error
-    /// is [`ReadFault::NoMemory`], and then nothing is known of the file.
+    /// `leave`, `key_file` and `group`. The error is [`ReadFault::File`] with the first of these:
+    /// [`FileFault::Syntax`], [`FileFault::Key`], [`FileFault::Value`], [`FileFault::Config`], [`FileFault::Pull`],
+    /// [`FileFault::Stall`], [`FileFault::Status`], [`FileFault::StatusOpen`], [`FileFault::StatusNotLoopback`] and
+    /// [`FileFault::KeyFile`]. A [`FileFault::Config`] whose number is greater than that of `KeyFile` comes behind all
+    /// of these, and [`FileFault::Leave`] comes last. Or the error is [`ReadFault::NoMemory`], and then nothing is
+    /// known of the file.
     ///
     /// Memory is allocated for the table that the file spells, and is freed again. For a file of more than
     /// [`MAX_FILE`](crate::MAX_FILE) bytes none is allocated.

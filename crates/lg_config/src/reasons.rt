@@ -13,6 +13,7 @@ use crate::fault::FileFault;
 use crate::form_reasons::{key_file_reason, seeds_reason, value_reason};
 use crate::group_reasons::group_reason;
 use crate::key_reasons::key_reason;
+use crate::leave_reasons::leave_reason;
 use crate::lookup::seeds_at;
 use crate::node_keys::NodeKey;
 use crate::ranges::{member_reason, own_reason};
@@ -71,6 +72,7 @@ fn reason_of(alloc: Global, fault: FileFault, table: &Table) -> Result<String, A
         FileFault::StatusOpen => open_reason(alloc, table),
         FileFault::StatusNotLoopback => loopback_reason(alloc, table),
         FileFault::KeyFile => key_file_reason(alloc, table),
+        FileFault::Leave => leave_reason(alloc, table),
     }
 }
 

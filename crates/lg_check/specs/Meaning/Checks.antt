@@ -17,7 +17,8 @@ use Rattle.lg_config.specs.Meaning.Bounds.{default_address, default_port}
 use Rattle.lg_config.specs.Meaning.Dice.{own_dice}
 use Rattle.lg_config.specs.Meaning.Keys.{file_keys}
 use Rattle.lg_config.specs.Meaning.NodeKeys.{node_key_name, node_keys, node_row_of, own_number}
-use Rattle.lg_check.specs.Meaning.Spelling.{group_spelled, path_spelled, seeds_spelled, status_spelled, truth_spelled}
+use Rattle.lg_check.specs.Meaning.Spelling.{group_spelled, path_spelled, seeds_spelled, status_spelled}
+use Rattle.lg_check.specs.Meaning.Spelling.{switch_spelled, truth_spelled}
 
 -- what stands behind a value that is the default of its key
 abbrev pub default_mark : Bool → List ℕ
@@ -61,6 +62,10 @@ status_open_line is_open = key_line (codes "status_open") (truth_spelled is_open
 abbrev pub server_lines : NodeConfig → List ℕ
 server_lines node = listening_line node.status ++ status_open_line node.status_open
 
+-- the line of whether a request may end the node
+abbrev pub leave_line : Bool → List ℕ
+leave_line leave = key_line (codes "leave") (switch_spelled leave) leave
+
 -- the line of the path of the key file
 abbrev pub key_file_line : Option (List ℕ) → List ℕ
 key_file_line path = key_line (codes "key_file") (path_spelled path) (is_none path)
@@ -90,5 +95,5 @@ unfoldable pub check_text : NodeConfig → List ℕ
 check_text node =
     address_lines node.config ++ start_lines node
     ++ flat_map (member_line node.config) file_keys ++ flat_map (own_line node) node_keys
-    ++ server_lines node ++ key_file_line node.key_file ++ group_name_line node.config.group
+    ++ server_lines node ++ leave_line node.leave ++ key_file_line node.key_file ++ group_name_line node.config.group
     ++ flat_map (group_line node.config) group_sizes

@@ -13,7 +13,7 @@ use Rattle.lg_config.specs.declared.node.NodeConfig.{NodeConfig}
 use Rattle.lg_config.specs.declared.node_keys.NodeKey.TheVariants.{PullMs, StallMs}
 use Rattle.lg_config.specs.Meaning.Dice.{own_dice}
 use Rattle.lg_check.specs.Meaning.Checks.{key_file_line, address_lines, group_line, member_line, own_line, server_lines}
-use Rattle.lg_check.specs.Meaning.Checks.{group_name_line, start_lines}
+use Rattle.lg_check.specs.Meaning.Checks.{group_name_line, leave_line, start_lines}
 use Rattle.lg_check.specs.Meaning.Spelling.{seeds_spelled}
 
 -- what the rows have to unfold
@@ -38,6 +38,7 @@ usual =
       status = None;
       status_open = false;
       key_file = None;
+      leave = true;
     }
 
 -- the times of the table in the documents, by the default numbers: 5.0 s; 6.0 and 36.1 s; 9.0 and 54.2 s; 12.0 and
@@ -143,6 +144,12 @@ open-without-server :
     server_lines (record usual { status_open = true }) ≡ codes "status = none (default)\nstatus_open = true\n"
 unfolding on_checks
 open-without-server = refl
+
+leave-allowed : leave_line usual.leave ≡ codes "leave = on (default)\n"
+leave-allowed = refl
+
+leave-refused : leave_line false ≡ codes "leave = off\n"
+leave-refused = refl
 
 no-key_file : key_file_line usual.key_file ≡ codes "key_file = none (default)\n"
 no-key_file = refl

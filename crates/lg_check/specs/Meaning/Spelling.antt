@@ -32,6 +32,11 @@ abbrev pub group_spelled : Option (List ℕ) → List ℕ
 group_spelled None = codes "none"
 group_spelled (Some name) = name
 
+-- the word for something that is on, or off
+abbrev pub switch_spelled : Bool → List ℕ
+switch_spelled true = codes "on"
+switch_spelled false = codes "off"
+
 -- a truth value, as TOML spells it
 abbrev pub truth_spelled : Bool → List ℕ
 truth_spelled true = codes "true"

@@ -1,7 +1,8 @@
 -- What reading a configuration file answers. If there are several faults, the first of these counts: of the document,
 -- of its keys and their types, of the form of a value, of the configuration's own check, of the node's own numbers, of
 -- the status server, of the path of the key file. Of the check's faults those with greater numbers than the node's own
--- come behind all of these, and that of the group comes last.
+-- come behind all of these, and that of the group comes last of them. Then comes that of whether a request may end the
+-- node.
 use Rattle.std.specs.Prelude.{ℕ, Bool, ◌&&◌, nat_le, nat_lt, List, length, Option, Some, None, Result, Ok, Err}
 use Rattle.std.specs.Prelude.{if◌then◌else◌, ◌≡◌, true}
 use Rattle.std.specs.Str.{is_utf8}
@@ -22,6 +23,7 @@ use Rattle.lg_config.specs.Meaning.Faults.{fault_number}
 use Rattle.lg_config.specs.Meaning.Groups.{group_in, with_group}
 use Rattle.lg_config.specs.Meaning.KeyFiles.{key_file_in, with_key_file}
 use Rattle.lg_config.specs.Meaning.Keys.{are_right_keys}
+use Rattle.lg_config.specs.Meaning.Leaves.{leave_in, with_leave}
 use Rattle.lg_config.specs.Meaning.NodeKeys.{node_row_of, own_broken}
 use Rattle.lg_config.specs.Meaning.Settings.{settings_of}
 use Rattle.lg_config.specs.Meaning.Status.{open_in, status_addr_in, with_status}
@@ -79,15 +81,24 @@ abbrev pub and_group : Members → Result NodeConfig FileFault → Result NodeCo
 and_group members (Ok node) = with_group node (group_in members)
 and_group _ (Err found) = Err found
 
+-- the same, with whether a request may end the node
+abbrev pub and_leave : Members → Result NodeConfig FileFault → Result NodeConfig FileFault
+and_leave members (Ok node) = with_leave node (leave_in members)
+and_leave _ (Err found) = Err found
+
 -- what a document whose keys are right means, or its fault, but for those that count if nothing else is wrong
 abbrev pub early_meaning_of : Members → Result NodeConfig FileFault
 early_meaning_of members = and_key_file members (and_status members (unless_node (settings_of members)))
 
--- What a document means, or the fault Key if its keys are wrong. The group is read once the check has found no fault of
--- a number. Then the check finds whether the member may belong to it.
+-- The same, with these. The group is read once the check has found no fault of a number. Then the check finds whether
+-- the member may belong to it.
+abbrev pub late_meaning_of : Members → Result NodeConfig FileFault
+late_meaning_of members = and_late (and_group members (and_late (early_meaning_of members)))
+
+-- what a document means, or the fault Key if its keys are wrong
 abbrev pub meaning_of : Members → Result NodeConfig FileFault
 meaning_of members =
-    if are_right_keys members then and_late (and_group members (and_late (early_meaning_of members))) else Err fault.Key
+    if are_right_keys members then and_leave members (late_meaning_of members) else Err fault.Key
 
 -- what a file means, or the fault Syntax if it is no document
 abbrev pub unless_syntax : Option Members → Result NodeConfig FileFault

@@ -45,10 +45,10 @@ local port = record { ip = V4 (127 ∷ 0 ∷ 0 ∷ 1 ∷ []); port = port }
 abbrev pub b-by-default : Config
 b-by-default = defaults (98 ∷ []) (local 7946)
 
--- a file that means this configuration, with dice of its own
-abbrev pub means : Config → Result NodeConfig FileFault
-means config =
-    Ok record {
+-- what a file says that means this configuration, with dice of its own, and nothing else
+abbrev pub usual-with : Config → NodeConfig
+usual-with config =
+    record {
       config = config;
       dice = own_dice config.name config.addr;
       pull_ms = 30000;
@@ -56,7 +56,11 @@ means config =
       status = None;
       status_open = false;
       key_file = None;
+      leave = true;
     }
+
+abbrev pub means : Config → Result NodeConfig FileFault
+means config = Ok (usual-with config)
 
 -- ---- files that mean a configuration
 
@@ -86,7 +90,7 @@ abbrev owned : List ℕ
 owned = codes "pull_ms = 0\nstall_ms = 60000\n"
 
 abbrev served : List ℕ
-served = codes "status = \"10.0.0.7:8946\"\nstatus_open = true\n"
+served = codes "status = \"10.0.0.7:8946\"\nstatus_open = true\nleave = \"off\"\n"
 
 all-keys :
     answer_of (b-with (addressed ++ timed ++ counted ++ told ++ owned ++ served))
@@ -116,6 +120,7 @@ all-keys :
       status = Some record { ip = V4 (10 ∷ 0 ∷ 0 ∷ 7 ∷ []); port = 8946 };
       status_open = true;
       key_file = None;
+      leave = false;
     }
 unfolding on_files
 all-keys = refl
@@ -265,16 +270,7 @@ wire-before-pulls = refl
 
 -- what a file of the member b means whose server listens there, by its status_open
 abbrev b-at : Addr → Bool → Result NodeConfig FileFault
-b-at addr is_open =
-    Ok record {
-      config = b-by-default;
-      dice = own_dice (98 ∷ []) (local 7946);
-      pull_ms = 30000;
-      stall_ms = 100;
-      status = Some addr;
-      status_open = is_open;
-      key_file = None;
-    }
+b-at addr is_open = Ok (record (usual-with b-by-default) { status = Some addr; status_open = is_open })
 
 on-loopback : answer_of (b-with (codes "status = \"127.0.0.1:8946\"")) ≡ b-at (local 8946) false
 unfolding on_files
@@ -295,16 +291,7 @@ open-to-all = refl
 
 -- without a server it means nothing
 open-alone :
-    answer_of (b-with (codes "status_open = true"))
-    ≡ Ok record {
-      config = b-by-default;
-      dice = own_dice (98 ∷ []) (local 7946);
-      pull_ms = 30000;
-      stall_ms = 100;
-      status = None;
-      status_open = true;
-      key_file = None;
-    }
+    answer_of (b-with (codes "status_open = true")) ≡ Ok (record (usual-with b-by-default) { status_open = true })
 unfolding on_files
 open-alone = refl
 
@@ -348,16 +335,9 @@ open-before-loopback = refl
 
 -- ---- the key file
 
-keyed : answer_of (b-with (codes "key_file = \"group.key\""))
-    ≡ Ok record {
-      config = b-by-default;
-      dice = own_dice (98 ∷ []) (local 7946);
-      pull_ms = 30000;
-      stall_ms = 100;
-      status = None;
-      status_open = false;
-      key_file = Some (codes "group.key");
-    }
+keyed :
+    answer_of (b-with (codes "key_file = \"group.key\""))
+    ≡ Ok (record (usual-with b-by-default) { key_file = Some (codes "group.key") })
 unfolding on_files
 keyed = refl
 

@@ -3,7 +3,7 @@ use Rattle.std.specs.Prelude.{ℕ}
 use Rattle.lg_timing.specs.Meaning.Keys.{config_fault_number}
 use Rattle.lg_config.specs.declared.fault.FileFault.{FileFault}
 use Rattle.lg_config.specs.declared.fault.FileFault.TheVariants.{Config, Syntax, Key, Value, Pull, Stall}
-use Rattle.lg_config.specs.declared.fault.FileFault.TheVariants.{Status, StatusOpen, StatusNotLoopback, KeyFile}
+use Rattle.lg_config.specs.declared.fault.FileFault.TheVariants.{Status, StatusOpen, StatusNotLoopback, KeyFile, Leave}
 
 abbrev pub fault_number : FileFault → ℕ
 fault_number (Config fault) = config_fault_number fault
@@ -16,3 +16,4 @@ fault_number Status = 18
 fault_number StatusOpen = 19
 fault_number StatusNotLoopback = 20
 fault_number KeyFile = 21
+fault_number Leave = 27

@@ -24,13 +24,20 @@ number_keys = codes "port" ∷ codes "dice" ∷ []
 abbrev pub texts_key : List ℕ
 texts_key = codes "seeds"
 
--- the keys of the status server: of its address, and of whether that may be one that isn't loopback; a value of another
--- type is a fault of its own
+-- the keys of the status server: of its address, and of whether that may be one that isn't loopback
 abbrev pub status_key : List ℕ
 status_key = codes "status"
 
 abbrev pub open_key : List ℕ
 open_key = codes "status_open"
+
+-- the key of whether a request may end the node
+abbrev pub leave_key : List ℕ
+leave_key = codes "leave"
+
+-- the keys of which a value of another type is a fault of its own
+abbrev pub any_keys : List (List ℕ)
+any_keys = status_key ∷ open_key ∷ leave_key ∷ []
 
 -- whether a file may give a number of the member's: it may give all but the first number of a probe
 abbrev pub is_file_key : Key → Bool
@@ -55,7 +62,7 @@ kind_of_key key =
     if is_listed text_keys key then Some Text
     else if is_listed number_keys key then Some Number
     else if bytes_eq key texts_key then Some Texts
-    else if is_listed (status_key ∷ open_key ∷ []) key then Some Any
+    else if is_listed any_keys key then Some Any
     else if is_some (file_key_named key) then Some Number
     else if is_some (node_key_named key) then Some Number
     else None

@@ -3,7 +3,7 @@ use Rattle.std.specs.Prelude.{ℕ, ◌*◌, ◌==◌, Bool, ◌&&◌, nat_eq, na
 use Rattle.std.specs.Prelude.{map, find, Option, None, if◌then◌else◌}
 use Rattle.strsim.specs.Edits.{levenshtein_row}
 use Rattle.lg_timing.specs.Meaning.Keys.{key_name}
-use Rattle.lg_config.specs.Meaning.Keys.{file_keys, open_key, status_key, texts_key}
+use Rattle.lg_config.specs.Meaning.Keys.{any_keys, file_keys, texts_key}
 use Rattle.lg_config.specs.Meaning.NodeKeys.{node_key_name, node_keys}
 
 -- all known keys, in the order in which the table of docs/FORMATS.md has them
@@ -11,7 +11,7 @@ abbrev pub known_keys : List (List ℕ)
 known_keys =
     codes "name" ∷ codes "address" ∷ codes "port" ∷ codes "dice"
     ∷ (map node_key_name node_keys
-    ++ (status_key ∷ open_key ∷ codes "key_file" ∷ codes "group" ∷ texts_key ∷ map key_name file_keys))
+    ++ (any_keys ++ (codes "key_file" ∷ codes "group" ∷ texts_key ∷ map key_name file_keys)))
 
 -- how many edits lead from one key to another: a byte is put in, taken out, or changed into another
 unfoldable pub edits : List ℕ → List ℕ → ℕ

@@ -14,7 +14,7 @@ use Rattle.lg_config.specs.declared.node.NodeConfig.{NodeConfig}
 use Rattle.lg_config.specs.Meaning.Answer.{answer_of, document_of}
 use Rattle.lg_config.specs.Meaning.FormReasons.{seeds_reason, value_reason}
 use Rattle.lg_config.specs.Meaning.GroupReasons.{group_reason}
-use Rattle.lg_config.specs.Meaning.Keys.{file_key_named, file_keys, kind_of_key, number_keys, text_keys}
+use Rattle.lg_config.specs.Meaning.Keys.{any_keys, file_key_named, file_keys, kind_of_key, number_keys, text_keys}
 use Rattle.lg_config.specs.Meaning.NodeKeys.{node_keys}
 use Rattle.lg_config.specs.Meaning.NearestKeys.{edits, fewest_edits, first_at, known_keys}
 use Rattle.lg_config.specs.Meaning.NearestKeys.{nearest_key, nearest_of}
@@ -225,6 +225,19 @@ first-in-file : said (codes "first = 1") ≡ Some (codes "the key \"first\" is u
 unfolding on_reasons
 first-in-file = refl
 
+leave-in-capitals : said (codes "leave = \"ON\"") ≡ Some (codes "leave is \"ON\", and has to be \"on\" or \"off\"\n")
+unfolding on_reasons
+leave-in-capitals = refl
+
+leave-as-boolean :
+    said (codes "leave = false") ≡ Some (codes "leave is of type boolean, and has to be of type string\n")
+unfolding on_reasons
+leave-as-boolean = refl
+
+near-leave : said (codes "leaves = 1") ≡ Some (codes "the key \"leaves\" is unknown, and the nearest is \"leave\"\n")
+unfolding on_reasons
+near-leave = refl
+
 -- a letter of two bytes and an escape character
 quoted-bytes : quoted (195 ∷ 169 ∷ 27 ∷ codes "a") ≡ codes "\"???a\""
 quoted-bytes = refl
@@ -243,5 +256,6 @@ unfolding on_keys
 known-keys-known = refl
 
 known-keys-counted :
-    length known_keys ≡ length text_keys + length number_keys + 1 + 2 + length file_keys + length node_keys
+    length known_keys
+    ≡ length text_keys + length number_keys + 1 + length any_keys + length file_keys + length node_keys
 known-keys-counted = refl

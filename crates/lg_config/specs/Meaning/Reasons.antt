@@ -18,6 +18,7 @@ use Rattle.lg_config.specs.Meaning.Bounds.{most_bytes}
 use Rattle.lg_config.specs.Meaning.FormReasons.{key_file_reason, seeds_reason, value_reason}
 use Rattle.lg_config.specs.Meaning.GroupReasons.{group_reason}
 use Rattle.lg_config.specs.Meaning.KeyReasons.{key_reason}
+use Rattle.lg_config.specs.Meaning.LeaveReasons.{leave_reason}
 use Rattle.lg_config.specs.Meaning.Ranges.{member_reason, own_reason}
 use Rattle.lg_config.specs.Meaning.Settings.{seeds_at}
 use Rattle.lg_config.specs.Meaning.StatusReasons.{loopback_reason, open_reason, status_reason}
@@ -48,6 +49,7 @@ reason_of fault.Status members = status_reason members
 reason_of fault.StatusOpen members = open_reason members
 reason_of fault.StatusNotLoopback members = loopback_reason members
 reason_of fault.KeyFile members = key_file_reason members
+reason_of fault.Leave members = leave_reason members
 
 -- the number of the line at a place of a text, from 1 on
 abbrev pub line_at : ℕ → List ℕ → ℕ

@@ -1,5 +1,5 @@
 -- The configuration that the members of a document mean. None if a value is out of its form. The keys are right.
-use Rattle.std.specs.Prelude.{ℕ, ℤ, pos, negsuc, false, List, [], ◌∷◌, codes, Option, Some, None}
+use Rattle.std.specs.Prelude.{ℕ, ℤ, pos, negsuc, true, false, List, [], ◌∷◌, codes, Option, Some, None}
 use Rattle.std.specs.Prelude.{option_and_then, unwrap_or}
 use Rattle.std.specs.Option.{option_map}
 use Rattle.toml.specs.Data.{Data, Items, no_items, item, Members, get_member, as_str, as_integer, as_array}
@@ -110,8 +110,8 @@ own_number_in key members = number_at_key (node_key_name key) (node_row_of key).
 abbrev pub with_seeds : List Seed → Config → Config
 with_seeds seeds config = record config { seeds = record { items = seeds } }
 
--- All that a document says but of the status server, of the key file and of the group, which are read later. It may
--- have too many seeds, or numbers out of their ranges; that is judged later.
+-- All that a document says but of the status server, of the key file, of the group and of leaving, which are read
+-- later. It may have too many seeds, or numbers out of their ranges; that is judged later.
 unfoldable pub settings_of : Members → Option NodeConfig
 settings_of members = do
   name ← name_in members
@@ -126,4 +126,5 @@ settings_of members = do
     status = None;
     status_open = false;
     key_file = None;
+    leave = true;
   }
