@@ -13,11 +13,11 @@ from fuzzing.wire import is_name
 MOST_BYTES = 65_536
 MOST_DEPTH = 80
 SYNTAX, KEY, VALUE = 12, 13, 14
-STATUS, STATUS_OPEN, STATUS_NOT_LOOPBACK, KEY_FILE, LEAVE = 18, 19, 20, 21, 27
+STATUS, STATUS_OPEN, STATUS_NOT_LOOPBACK, KEY_FILE, LEAVE, BIND = 18, 19, 20, 21, 27, 28
 TEXT_KEYS = ("name", "address", "key_file", "group")
 INTEGER_KEYS = ("port", "dice")
 # Keys of which a value of another type is a fault of its own.
-ANY_KEYS = ("status", "status_open", "leave")
+ANY_KEYS = ("status", "status_open", "leave", "bind")
 # Of the node's own numbers: the least, the greatest, the default and the number of the fault.
 OWN_NUMBERS = {"pull_ms": (0, 3_600_000, 30_000, 16), "stall_ms": (0, 60_000, 100, 17)}
 DEFAULT_TEXTS = {"address": "127.0.0.1", "port": 7946}
@@ -103,6 +103,11 @@ def place_in(text):
     return (address, port) if colon and address and port else None
 
 
+def place_or_port(text, port):
+    """The same of `A.B.C.D:PORT`, or of `A.B.C.D`, which has this port."""
+    return place_in(text if ":" in text else f"{text}:{port}")
+
+
 def place_text(place):
     return f"{'.'.join(map(str, place[0]))}:{place[1]}"
 
@@ -157,6 +162,16 @@ def leave_of(document):
     return leave
 
 
+def bind_of(document, address, port):
+    """Where the socket is bound: at the member's own place if the document says nothing of it."""
+    if "bind" not in document:
+        return address, port
+    must(isinstance(document["bind"], str), BIND)
+    place = place_or_port(document["bind"], port)
+    must(place, BIND)
+    return place
+
+
 def own_dice(name, address, port):
     """The number that the dice of a member start from if its file doesn't say it."""
     digest = hashlib.sha256(name.encode() + b"\0" + bytes(address) + port.to_bytes(2, "big")).digest()
@@ -182,19 +197,21 @@ def meaning_of(document):
     must(fault is None, fault)
     values["group"] = group_of(document)
     values["leave"] = leave_of(document)
+    values["bind"] = place_text(bind_of(document, address, values["port"]))
+    values["own_place"] = place_text((address, values["port"]))
     return values | {"address": ".".join(map(str, address)), "seeds": seeds}
 
 
 def shown(values):
     """The lines of `lg check`."""
-    order = ["name", "address", "port", "dice", "seeds", *FILE_NUMBERS, *OWN_NUMBERS, "status", "status_open",
+    order = ["name", "address", "port", "bind", "dice", "seeds", *FILE_NUMBERS, *OWN_NUMBERS, "status", "status_open",
              "leave", "key_file", "group"]
     seeds = ", ".join(f"{name}@{place_text(place)}" for name, place in values["seeds"])
     texts = values | {"seeds": seeds or "none", "status": place_text(values["status"]) if values["status"] else "none",
                       "status_open": str(values["status_open"]).lower(), "key_file": values["key_file"] or "none",
                       "group": values["group"] or "none"}
     defaults = DEFAULT_TEXTS | {"dice": values["own_dice"]} | numbers_of({}) | {"seeds": "none", "status": "none", "status_open": "false",
-                                                                              "leave": "on"}
+                                                                              "leave": "on", "bind": values["own_place"]}
     defaults |= {key: "none" for key in ("key_file", "group") if not values[key]}
     lines = [f"{key} = {texts[key]}{' (default)' if texts[key] == defaults.get(key) else ''}" for key in order]
     for live in SHOWN_MEMBERS:

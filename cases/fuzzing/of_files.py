@@ -61,6 +61,11 @@ def place(dice):
     return where + dice.choice([":", ":", ":", ":", "", "::"]) + port
 
 
+def bound(dice):
+    """An address that mostly has a port."""
+    return place(dice) if dice.random() < 0.7 else address(dice)
+
+
 def seeds(dice):
     """An array of seeds, mostly with distinct names, in one of its spellings."""
     count = dice.choice([0, 1, 2, dice.randrange(16), 16, 17])
@@ -75,7 +80,7 @@ def seeds(dice):
 def right_value(dice, key):
     """A value for a key that is no fault, whatever else the file has."""
     texts = {"name": "b", "address": "127.0.0.1", "status": dice.choice(["127.0.0.1:8946", "127.9.0.10:1"]),
-             "leave": dice.choice(["on", "off"])}
+             "leave": dice.choice(["on", "off"]), "bind": dice.choice(["0.0.0.0", "127.0.0.1:7946", "127.9.0.10:1"])}
     plain = {"seeds": "[]", "status_open": dice.choice(["true", "false"])}
     if key in ROWS:
         least, most, default = ROWS[key][:3]
@@ -92,7 +97,7 @@ def wild_value(dice, key):
         return whole_number(dice, number_near(dice, ROWS[key]))
     made = {"name": lambda: spelled(dice, dice.choice(NAMES)), "address": lambda: spelled(dice, address(dice)),
             "seeds": lambda: seeds(dice), "status": lambda: spelled(dice, place(dice)),
-            "leave": lambda: spelled(dice, dice.choice(SWITCHES)),
+            "leave": lambda: spelled(dice, dice.choice(SWITCHES)), "bind": lambda: spelled(dice, bound(dice)),
             "key_file": lambda: spelled(dice, dice.choice(PATHS)), "group": lambda: spelled(dice, dice.choice(NAMES))}
     return made.get(key, lambda: dice.choice(["true", "false", *VALUES]))()
 
@@ -113,7 +118,7 @@ class Files(RunKind):
     wrong_rules = (
         (files, "MOST_DEPTH", 0), (files, "TEXT_KEYS", ("name",)), (files, "SYNTAX", 13), (files, "VALUE", 11),
         (files, "SHOWN_MEMBERS", (4, 16, 32, 256)), (files, "STATUS_NOT_LOOPBACK", 19),
-        (files, "KEY_FILE", 20), (files, "GROUP_FAULT", 25), (files, "LEAVE", 26),
+        (files, "KEY_FILE", 20), (files, "GROUP_FAULT", 25), (files, "LEAVE", 26), (files, "BIND", 27),
         (files, "OWN_NUMBERS", files.OWN_NUMBERS | {"pull_ms": (1, 3_600_000, 30_000, 16)}),
         (numbers, "MOST_SEEDS", 15), (numbers, "MAY_BE_OFF", ()),
         (numbers, "RATIOS", [[900], [0, 1000], *numbers.RATIOS[2:]]))

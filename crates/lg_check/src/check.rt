@@ -55,7 +55,7 @@ fn put_groups(config: &Config, text: &mut String) -> Result<(), AllocError>
 /// (Lifeguard, local health aware suspicion). The forms are this project's choice.
 ///
 /// The configuration has to be checked. The only error is that memory was refused. Memory is allocated for the text,
-/// which has 30 lines.
+/// which has 31 lines.
 #[tactic(auto, unfolding(crate::specs::Meaning::Checks::check_text))]
 pub fn check_text(alloc: Global, node: &NodeConfig) -> Result<String, AllocError>
     requires { IsChecked node.now.config }

@@ -4,12 +4,13 @@
 //! Tested in: `cases/check.case`.
 ghost use Rattle.std.specs.Prelude.{◌≡◌, ◌≤◌, ◌++◌, OnOk, string_bytes};
 ghost use Rattle.lg_timing.specs.Meaning.Config.{IsChecked};
-ghost use Rattle.lg_check.specs.Meaning.Checks.{address_lines, default_mark, group_line, key_line, listening_line};
-ghost use Rattle.lg_check.specs.Meaning.Checks.{key_file_line, member_line, number_line, own_line, server_lines};
-ghost use Rattle.lg_check.specs.Meaning.Checks.{group_name_line, leave_line, start_lines, status_open_line, times_line};
+ghost use Rattle.lg_check.specs.Meaning.Checks.{address_lines, bind_line, default_mark, group_line, key_line};
+ghost use Rattle.lg_check.specs.Meaning.Checks.{key_file_line, listening_line, member_line, number_line, own_line};
+ghost use Rattle.lg_check.specs.Meaning.Checks.{group_name_line, leave_line, server_lines, start_lines};
+ghost use Rattle.lg_check.specs.Meaning.Checks.{status_open_line, times_line};
 
 use crate::spelling::{
-    group_spelled, ip_text, path_spelled, seeds_spelled, status_spelled, switch_spelled,
+    addr_text, group_spelled, ip_text, path_spelled, seeds_spelled, status_spelled, switch_spelled,
     text_of_name, truth_spelled,
 };
 use lg_config::{DEFAULT_ADDRESS, DEFAULT_PORT, FilePath, NodeConfig, NodeKey, own_dice};
@@ -54,7 +55,17 @@ pub(crate) fn put_address(
     put_key("address", address.as_str(), is_default, text)
 }
 
-/// Appends the lines of the port, the dice and the seeds to a text.
+/// Appends the line of where the node's socket is bound to a text.
+fn put_bind(alloc: Global, node: &NodeConfig, text: &mut String) -> Result<(), AllocError>
+    ensures { OnOk result (string_bytes text.new ≡ string_bytes text.old ++ bind_line node.now) }
+{
+    let bound = node.bound_at();
+    let is_default = bound == node.config.addr;
+    let spelled = addr_text(alloc, bound)?;
+    put_key("bind", spelled.as_str(), is_default, text)
+}
+
+/// Appends the lines of the port, of where the socket is bound, of the dice and of the seeds to a text.
 pub(crate) fn put_start(
     alloc: Global,
     node: &NodeConfig,
@@ -65,6 +76,7 @@ pub(crate) fn put_start(
     let seeds = node.config.seeds.as_slice();
     let port = u64::from(node.config.addr.port);
     put_number("port", port, u64::from(DEFAULT_PORT), text)?;
+    put_bind(alloc, node, text)?;
     let own = own_dice(&node.config.name, &node.config.addr);
     put_number("dice", node.dice, own, text)?;
     let spelled = seeds_spelled(alloc, seeds)?;

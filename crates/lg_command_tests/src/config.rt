@@ -27,6 +27,8 @@ struct Row {
     group: Option<&'static [u8]>,
     /// Whether a request may end the node.
     leave: bool,
+    /// Where the socket is bound, if the file says it.
+    bind: Option<Addr>,
 }
 
 /// The numbers of a file that gives none.
@@ -59,6 +61,7 @@ status_open = true
 key_file = \"/etc/lg/group.key\"
 group = \"grn\"
 leave = \"off\"
+bind = \"0.0.0.0\"
 seeds = [\"c@127.0.0.1:7002\", \"a@1.2.3.4:5\"]
 ";
 
@@ -88,7 +91,8 @@ fn is_of(node: &NodeConfig, row: &Row) -> bool {
         && (node.status, node.status_open) == row.status
         && node.key_file.as_ref().map(|path| path.as_str()) == row.key_file
         && config.group == row.group.map(|letters| name(letters))
-        && node.leave == row.leave
+        && (node.leave, node.bind) == (row.leave, row.bind)
+        && node.bound_at() == row.bind.unwrap_or(config.addr)
         && config.first == 1
         && config.seeds.len() == row.seeds.len()
         && config.seeds.iter().zip(row.seeds).all(|(seed, known)| {
@@ -98,8 +102,8 @@ fn is_of(node: &NodeConfig, row: &Row) -> bool {
 
 /// Each value of some files: one with only its name, one that writes the defaults, one with all keys, one at the other
 /// edges of the node's own numbers, one with the last address of loopback for its status server, one that would allow
-/// any but has no such server, one that lets a request end the node, and one whose address and port the program can't
-/// have.
+/// any but has no such server, one that lets a request end the node, one whose socket is bound elsewhere, and one whose
+/// address and port the program can't have.
 #[test]
 fn each_value(rt: HostRuntime) {
     let alone = Row {
@@ -114,6 +118,7 @@ fn each_value(rt: HostRuntime) {
         key_file: None,
         group: None,
         leave: true,
+        bind: None,
     };
     let rows = [
         alone,
@@ -134,6 +139,7 @@ fn each_value(rt: HostRuntime) {
             key_file: Some("/etc/lg/group.key"),
             group: Some(b"grn"),
             leave: false,
+            bind: Some(Addr::v4([0, 0, 0, 0], 7001)),
         },
         Row {
             text: "name = \"b\"\npull_ms = 0\nstall_ms = 60000",
@@ -152,6 +158,11 @@ fn each_value(rt: HostRuntime) {
         },
         Row {
             text: "name = \"b\"\nleave = \"on\"",
+            ..alone
+        },
+        Row {
+            text: "name = \"b\"\nbind = \"192.168.1.2:8000\"",
+            bind: Some(Addr::v4([192, 168, 1, 2], 8000)),
             ..alone
         },
         Row {

@@ -170,6 +170,7 @@ const FILES: &[(FileFault, &str)] = &[
         "key_file has to have 1 to 255 bytes of printable ASCII",
     ),
     (FileFault::Leave, "leave has to be \"on\" or \"off\""),
+    (FileFault::Bind, "bind has to be A.B.C.D or A.B.C.D:PORT"),
 ];
 
 const READS: &[(ReadFault, &str)] = &[

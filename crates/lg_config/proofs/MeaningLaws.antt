@@ -20,7 +20,8 @@ use Rattle.lg_config.specs.declared.fault.FileFault.TheVariants as fault
 use Rattle.lg_config.specs.declared.node.NodeConfig.{NodeConfig}
 use Rattle.lg_config.specs.declared.node_keys.NodeKey.{NodeKey}
 use Rattle.lg_config.specs.declared.node_keys.NodeKey.TheVariants.{PullMs, StallMs}
-use Rattle.lg_config.specs.Meaning.Answer.{and_group, and_key_file, and_late, and_leave, and_status, is_late, late_meaning_of, meaning_of, unless_broken, unless_config, unless_late, unless_node}
+use Rattle.lg_config.specs.Meaning.Answer.{and_bind, and_group, and_key_file, and_late, and_leave, and_status, is_late, late_meaning_of, meaning_of, unless_broken, unless_config, unless_late, unless_node}
+use Rattle.lg_config.specs.Meaning.Binding.{bind_in, with_bind}
 use Rattle.lg_config.specs.Meaning.Dice.{own_dice}
 use Rattle.lg_config.specs.Meaning.Groups.{group_in, with_group}
 use Rattle.lg_config.specs.Meaning.KeyFiles.{key_file_in, with_key_file}
@@ -65,7 +66,7 @@ unfolding settings_of
 settings-seeds m node is = go (name_in m) (addr_in m) (dice_in m) (seeds_of_items (seeds_at m)) is
   where
     go : (name : Option (List ℕ)) (addr : Option Addr) (dice : Option (Option ℕ)) (seeds : Option (List Seed))
-        → option_and_then (λ n. option_and_then (λ a. option_and_then (λ d. option_and_then (λ ss. Some (let made : NodeConfig = record { config = with_seeds ss (with_numbers m (defaults n a)); dice = unwrap_or d (own_dice n a); pull_ms = own_number_in PullMs m; stall_ms = own_number_in StallMs m; status = None; status_open = false; key_file = None; leave = true } in made)) seeds) dice) addr) name ≡ Some node
+        → option_and_then (λ n. option_and_then (λ a. option_and_then (λ d. option_and_then (λ ss. Some (let made : NodeConfig = record { config = with_seeds ss (with_numbers m (defaults n a)); dice = unwrap_or d (own_dice n a); pull_ms = own_number_in PullMs m; stall_ms = own_number_in StallMs m; status = None; status_open = false; key_file = None; leave = true; bind = None } in made)) seeds) dice) addr) name ≡ Some node
         → seeds ≡ Some node.config.seeds.items
     go None addr dice seeds e = absurd cc
     go (Some n) None dice seeds e = absurd cc
@@ -123,7 +124,17 @@ judged-few m first vs found same few = go (settings_of m) refl found
         let within : length node.config.seeds.items ≤ most_seeds = omega (arith, few, settings-counted m node vs same s) in
         ap (λ n. unless_config n (check_of n.config)) (same_Some _ _ e ∙ few-kept node within)
 
--- ---- what holds of settings, whatever they say of leaving, is kept
+-- ---- what holds of settings, whatever they say of leaving and of where the socket is bound, is kept
+
+bind-kept : (P : NodeConfig → Type 0) → ((node : NodeConfig) (bind : Option Addr) → P node → P (record node { bind = bind }))
+    → (node : NodeConfig) (bind : Result (Option Addr) FileFault) → P node → IfOk (with_bind node bind) P
+bind-kept P same node (Err found) holds = tt
+bind-kept P same node (Ok bind) holds = same node bind holds
+
+and_bind-kept : (P : NodeConfig → Type 0) → ((node : NodeConfig) (bind : Option Addr) → P node → P (record node { bind = bind }))
+    → (m : Members) (r : Result NodeConfig FileFault) → IfOk r P → IfOk (and_bind m r) P
+and_bind-kept P same m (Err found) holds = tt
+and_bind-kept P same m (Ok node) holds = bind-kept P same node (bind_in node.config.addr.port m) holds
 
 leave-kept : (P : NodeConfig → Type 0) → ((node : NodeConfig) (leave : Bool) → P node → P (record node { leave = leave }))
     → (node : NodeConfig) (leave : Result Bool FileFault) → P node → IfOk (with_leave node leave) P
@@ -205,8 +216,9 @@ within-late_meaning m =
 
 pub within-meaning : (m : Members) → IfOk (meaning_of m) HasWithin
 within-meaning m =
-    within-if_right m (are_right_keys m) (and_leave m (late_meaning_of m))
-    (and_leave-kept HasWithin (λ node leave within. within) m (late_meaning_of m) (within-late_meaning m))
+    within-if_right m (are_right_keys m) (and_bind m (and_leave m (late_meaning_of m)))
+    (and_bind-kept HasWithin (λ node bind within. within) m (and_leave m (late_meaning_of m))
+    (and_leave-kept HasWithin (λ node leave within. within) m (late_meaning_of m) (within-late_meaning m)))
 
 -- ---- and the status server of a configuration that is given may listen where it is to
 
@@ -262,8 +274,9 @@ guarded-late_meaning m =
 
 pub guarded-meaning : (m : Members) → IfOk (meaning_of m) IsGuarded
 guarded-meaning m =
-    guarded-if_right (are_right_keys m) (and_leave m (late_meaning_of m))
-    (and_leave-kept IsGuarded (λ node leave guarded. guarded) m (late_meaning_of m) (guarded-late_meaning m))
+    guarded-if_right (are_right_keys m) (and_bind m (and_leave m (late_meaning_of m)))
+    (and_bind-kept IsGuarded (λ node bind guarded. guarded) m (and_leave m (late_meaning_of m))
+    (and_leave-kept IsGuarded (λ node leave guarded. guarded) m (late_meaning_of m) (guarded-late_meaning m)))
 
 -- ---- and the member's configuration passes its check
 
@@ -284,6 +297,7 @@ passed-if_right false r passed = tt
 
 pub passed-meaning : (m : Members) → IfOk (meaning_of m) HasPassed
 passed-meaning m =
-    passed-if_right (are_right_keys m) (and_leave m (late_meaning_of m))
+    passed-if_right (are_right_keys m) (and_bind m (and_leave m (late_meaning_of m)))
+    (and_bind-kept HasPassed (λ node bind passed. passed) m (and_leave m (late_meaning_of m))
     (and_leave-kept HasPassed (λ node leave passed. passed) m (late_meaning_of m)
-    (passed-and_late (and_group m (and_late (and_key_file m (and_status m (unless_node (settings_of m))))))))
+    (passed-and_late (and_group m (and_late (and_key_file m (and_status m (unless_node (settings_of m)))))))))

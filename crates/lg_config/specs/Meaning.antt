@@ -1,5 +1,8 @@
 -- What is right: whoever wants to believe the contracts reads these.
 pub mod Answer
+pub mod BindExamples
+pub mod BindReasons
+pub mod Binding
 pub mod Bounds
 pub mod Dice
 pub mod Examples

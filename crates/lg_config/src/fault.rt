@@ -23,7 +23,7 @@ pub enum FileFault {
     #[error("the file has to be TOML in UTF-8, of at most {most} bytes", most = MAX_FILE)]
     Syntax,
     /// A key is unknown, the name is missing, or a value is of another TOML type than its key wants. The values of
-    /// `status`, `status_open` and `leave` have faults of their own.
+    /// `status`, `status_open`, `leave` and `bind` have faults of their own.
     #[error("a key is unknown or has a value of another type, or the name is missing")]
     Key,
     /// A name, an address, a port or a seed is out of its form, or the dice are negative.
@@ -50,10 +50,13 @@ pub enum FileFault {
     /// `leave` is no text, or neither `on` nor `off`.
     #[error("leave has to be \"on\" or \"off\"")]
     Leave,
+    /// `bind` is no text, or is neither `A.B.C.D` nor `A.B.C.D:PORT`.
+    #[error("bind has to be A.B.C.D or A.B.C.D:PORT")]
+    Bind,
 }
 
 impl FileFault {
-    /// The number of the fault: that of [`ConfigFault::number`], or 12, 13, 14, 16 to 21 or 27 for the others.
+    /// The number of the fault: that of [`ConfigFault::number`], or 12, 13, 14, 16 to 21, 27 or 28 for the others.
     pub fn number(self) -> u8
         ensures { result ≡ fault_number self }
     {
@@ -69,6 +72,7 @@ impl FileFault {
             FileFault::StatusNotLoopback => 20,
             FileFault::KeyFile => 21,
             FileFault::Leave => 27,
+            FileFault::Bind => 28,
         }
     }
 }

@@ -46,6 +46,9 @@ pub(crate) const STATUS_OPEN: &str = "status_open";
 /// The key of whether a request may end the node.
 pub(crate) const LEAVE: &str = "leave";
 
+/// The key of where the socket for datagrams is bound.
+pub(crate) const BIND: &str = "bind";
+
 /// The keys of the numbers of the member's that a file may give, in the order in which they are judged: all but
 /// [`Key::First`].
 pub const FILE_KEYS: [Key; 14] = [
@@ -89,7 +92,7 @@ pub(crate) fn kind_of(key: &str) -> Option<Kind>
         "name" | "address" | "key_file" | "group" => Some(Kind::Text),
         "port" | "dice" => Some(Kind::Number),
         "seeds" => Some(Kind::Texts),
-        "status" | "status_open" | "leave" => Some(Kind::Any),
+        "status" | "status_open" | "leave" | "bind" => Some(Kind::Any),
         _ if file_key_named(key.as_bytes()).is_some() => Some(Kind::Number),
         _ if NodeKey::named(key.as_bytes()).is_some() => Some(Kind::Number),
         _ => None,

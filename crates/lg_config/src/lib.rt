@@ -5,6 +5,8 @@
 //! (`Faults.antt`), `may_listen` (`Status.antt`) and `IsReason` (`Reasons.antt`).
 #![tactic(auto)]
 
+mod bind;
+mod bind_reasons;
 mod dice;
 mod document;
 mod fault;

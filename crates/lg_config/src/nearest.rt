@@ -14,7 +14,7 @@ use strsim::generic_levenshtein;
 const MAX_EDITS: usize = 3;
 
 /// All known keys, in the order in which `docs/FORMATS.md` has them.
-const KNOWN_KEYS: [&str; 26] = [
+const KNOWN_KEYS: [&str; 27] = [
     "name",
     "address",
     "port",
@@ -24,6 +24,7 @@ const KNOWN_KEYS: [&str; 26] = [
     "status",
     "status_open",
     "leave",
+    "bind",
     "key_file",
     "group",
     "seeds",

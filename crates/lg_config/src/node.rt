@@ -11,6 +11,7 @@ ghost use Rattle.lg_config.specs.Meaning.Answer.{unless_node, IsAnswer};
 ghost use Rattle.lg_config.specs.Meaning.Settings.{settings_of};
 ghost use Rattle.lg_config.specs.Support.Reading.{fault_of_many};
 
+use crate::bind::with_bind;
 use crate::document::table_in;
 use crate::fault::{FileFault, ReadFault};
 use crate::group::with_group;
@@ -48,6 +49,9 @@ pub struct NodeConfig {
     pub key_file: Option<FilePath>,
     /// Whether the request `POST /v1/leave` may end the node.
     pub leave: bool,
+    /// Where its socket for datagrams is bound, if its file says it. None if it is bound to the member's address and
+    /// port, which the others are told.
+    pub bind: Option<Addr>,
 }
 
 /// The fault of a table with too many seeds, given what the check of a configuration with the first of them found. The
@@ -106,8 +110,8 @@ fn unless_late(node: NodeConfig) -> Result<NodeConfig, FileFault>
     }
 }
 
-/// The settings of a table whose keys are right, or their fault. The status server, the path of the key file, the group
-/// and leaving aren't read yet, and the faults that count last aren't judged.
+/// The settings of a table whose keys are right, or their fault. The status server, the path of the key file, the
+/// group, leaving and where the socket is bound aren't read yet, and the faults that count last aren't judged.
 fn judged_in(table: &Table) -> Result<NodeConfig, FileFault>
     ensures { result ≡ unless_node (settings_of (table_view table.now)) }
 {
@@ -132,10 +136,12 @@ fn meaning_in(table: &Table) -> Result<NodeConfig, FileFault>
     let node = unless_late(node)?;
     let node = with_group(table, node)?;
     let node = unless_late(node)?;
-    with_leave(table, node)
+    let node = with_leave(table, node)?;
+    with_bind(table, node)
 }
 
 impl NodeConfig {
+    ghost use Rattle.lg_config.specs.Meaning.Binding.{bound_at};
     ghost use Rattle.lg_config.specs.Meaning.NodeKeys.{own_broken, own_number};
     ghost use Rattle.lg_config.specs.Meaning.Status.{may_listen};
 
@@ -147,6 +153,13 @@ impl NodeConfig {
             NodeKey::PullMs => self.pull_ms,
             NodeKey::StallMs => self.stall_ms,
         }
+    }
+
+    /// Where the node's socket for datagrams is bound: where its file says, or else at the member's address and port.
+    pub fn bound_at(&self) -> Addr
+        ensures { result ≡ bound_at self.now }
+    {
+        self.bind.unwrap_or(self.config.addr)
     }
 
     /// The first key of the node's own whose number is out of its range, if there is one.
@@ -163,12 +176,12 @@ impl NodeConfig {
     ///
     /// The file is TOML. Its keys are `name`, which it must have, `address`, `port`, `dice`, `seeds`, the numbers of
     /// [`Config`] but for `first`, and those of [`NodeKey`], by the names of their fields, `status`, `status_open`,
-    /// `leave`, `key_file` and `group`. The error is [`ReadFault::File`] with the first of these:
+    /// `leave`, `bind`, `key_file` and `group`. The error is [`ReadFault::File`] with the first of these:
     /// [`FileFault::Syntax`], [`FileFault::Key`], [`FileFault::Value`], [`FileFault::Config`], [`FileFault::Pull`],
     /// [`FileFault::Stall`], [`FileFault::Status`], [`FileFault::StatusOpen`], [`FileFault::StatusNotLoopback`] and
     /// [`FileFault::KeyFile`]. A [`FileFault::Config`] whose number is greater than that of `KeyFile` comes behind all
-    /// of these, and [`FileFault::Leave`] comes last. Or the error is [`ReadFault::NoMemory`], and then nothing is
-    /// known of the file.
+    /// of these, and [`FileFault::Leave`] and [`FileFault::Bind`] come last. Or the error is [`ReadFault::NoMemory`],
+    /// and then nothing is known of the file.
     ///
     /// Memory is allocated for the table that the file spells, and is freed again. For a file of more than
     /// [`MAX_FILE`](crate::MAX_FILE) bytes none is allocated.

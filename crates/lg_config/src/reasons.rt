@@ -8,6 +8,7 @@ ghost use Rattle.toml.specs.View.{table_view};
 ghost use Rattle.lg_config.specs.Meaning.Reasons.{config_reason, key_of_fault, line_at, line_reason, reason_of};
 ghost use Rattle.lg_config.specs.Meaning.Reasons.{unnumbered_reason, IsReason, IsTomlReason};
 
+use crate::bind_reasons::bind_reason;
 use crate::document::{Unread, table_in};
 use crate::fault::FileFault;
 use crate::form_reasons::{key_file_reason, seeds_reason, value_reason};
@@ -73,6 +74,7 @@ fn reason_of(alloc: Global, fault: FileFault, table: &Table) -> Result<String, A
         FileFault::StatusNotLoopback => loopback_reason(alloc, table),
         FileFault::KeyFile => key_file_reason(alloc, table),
         FileFault::Leave => leave_reason(alloc, table),
+        FileFault::Bind => bind_reason(alloc, table),
     }
 }
 

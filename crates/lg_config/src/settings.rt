@@ -112,8 +112,8 @@ fn own_number_at(table: &Table, key: NodeKey) -> u64
     number_at(table, key.name(), key.row().default)
 }
 
-/// All that a table says but of the status server, of the key file, of the group and of leaving, and of its seeds only
-/// the first 16. None if a value is out of its form.
+/// All that a table says but of the status server, of the key file, of the group, of leaving and of where the socket is
+/// bound, and of its seeds only the first 16. None if a value is out of its form.
 #[tactic(auto, unfolding(crate::specs::Meaning::Settings::settings_of))]
 pub(crate) fn settings_in(table: &Table) -> Option<NodeConfig>
     ensures { result ≡ option_map with_first_seeds (settings_of (table_view table.now)) }
@@ -134,5 +134,6 @@ pub(crate) fn settings_in(table: &Table) -> Option<NodeConfig>
         status_open: false,
         key_file: None,
         leave: true,
+        bind: None,
     })
 }

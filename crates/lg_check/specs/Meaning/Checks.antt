@@ -5,14 +5,16 @@ use Rattle.std.specs.Prelude.{length}
 use Rattle.std.specs.List.{flat_map}
 use Rattle.std.specs.Str.{bytes_eq}
 use Rattle.lg_rules.specs.declared.addr.Addr.{Addr}
+use Rattle.lg_rules.specs.Meaning.View.{is_same_addr}
 use Rattle.lg_timing.specs.declared.config.Config.{Config}
 use Rattle.lg_timing.specs.declared.keys.Key.{Key}
 use Rattle.lg_timing.specs.Meaning.Keys.{key_name, number_of_key, row_of}
 use Rattle.lg_timing.specs.Meaning.Timeouts.{range_of, suspicion_of}
 use Rattle.lg_text.specs.Meaning.Lines.{newline}
-use Rattle.lg_text.specs.Meaning.Addresses.{ip_text}
+use Rattle.lg_text.specs.Meaning.Addresses.{addr_text, ip_text}
 use Rattle.lg_config.specs.declared.node.NodeConfig.{NodeConfig}
 use Rattle.lg_config.specs.declared.node_keys.NodeKey.{NodeKey}
+use Rattle.lg_config.specs.Meaning.Binding.{bound_at}
 use Rattle.lg_config.specs.Meaning.Bounds.{default_address, default_port}
 use Rattle.lg_config.specs.Meaning.Dice.{own_dice}
 use Rattle.lg_config.specs.Meaning.Keys.{file_keys}
@@ -33,15 +35,23 @@ key_line key value usual = key ++ (codes " = " ++ (value ++ (default_mark usual 
 abbrev pub number_line : List ℕ → ℕ → ℕ → List ℕ
 number_line key number usual = key_line key (decimal number) (number == usual)
 
--- the lines of the member's name and its address, of its port, the dice and the seeds
+-- the lines of the member's name and its address
 abbrev pub address_lines : Config → List ℕ
 address_lines c =
     key_line (codes "name") c.name false
     ++ key_line (codes "address") (ip_text c.addr.ip) (bytes_eq (ip_text c.addr.ip) default_address)
 
+-- the line of where the node's socket is bound; the default is the member's address and port
+abbrev pub bind_line : NodeConfig → List ℕ
+bind_line node =
+    let bound = bound_at node in
+    key_line (codes "bind") (addr_text bound) (is_same_addr bound node.config.addr)
+
+-- the lines of the member's port, of where the socket is bound, of the dice and of the seeds
 abbrev pub start_lines : NodeConfig → List ℕ
 start_lines node =
     number_line (codes "port") node.config.addr.port default_port
+    ++ bind_line node
     ++ number_line (codes "dice") node.dice (own_dice node.config.name node.config.addr)
     ++ key_line (codes "seeds") (seeds_spelled node.config.seeds.items) (length node.config.seeds.items == 0)
 

@@ -13,7 +13,7 @@ use Rattle.lg_config.specs.declared.node.NodeConfig.{NodeConfig}
 use Rattle.lg_config.specs.declared.node_keys.NodeKey.TheVariants.{PullMs, StallMs}
 use Rattle.lg_config.specs.Meaning.Dice.{own_dice}
 use Rattle.lg_check.specs.Meaning.Checks.{key_file_line, address_lines, group_line, member_line, own_line, server_lines}
-use Rattle.lg_check.specs.Meaning.Checks.{group_name_line, leave_line, start_lines}
+use Rattle.lg_check.specs.Meaning.Checks.{bind_line, group_name_line, leave_line, start_lines}
 use Rattle.lg_check.specs.Meaning.Spelling.{seeds_spelled}
 
 -- what the rows have to unfold
@@ -39,6 +39,7 @@ usual =
       status_open = false;
       key_file = None;
       leave = true;
+      bind = None;
     }
 
 -- the times of the table in the documents, by the default numbers: 5.0 s; 6.0 and 36.1 s; 9.0 and 54.2 s; 12.0 and
@@ -75,9 +76,22 @@ other-address = refl
 
 start :
     start_lines usual
-    ≡ codes "port = 7946 (default)\ndice = 2189494717179526441 (default)\nseeds = none (default)\n"
+    ≡ codes "port = 7946 (default)\nbind = 127.0.0.1:7946 (default)\n"
+    ++ codes "dice = 2189494717179526441 (default)\nseeds = none (default)\n"
 unfolding on_checks own_dice sha256 first_words schedule rounds compress hash_after digest_bytes
 start = refl
+
+bound-elsewhere :
+    bind_line (record usual { bind = Some (addr_of (0 ∷ 0 ∷ 0 ∷ 0 ∷ []) 7946) }) ≡ codes "bind = 0.0.0.0:7946\n"
+unfolding on_checks
+bound-elsewhere = refl
+
+-- a place that the file gives may be the default
+bound-there :
+    bind_line (record usual { bind = Some (addr_of (127 ∷ 0 ∷ 0 ∷ 1 ∷ []) 7946) })
+    ≡ codes "bind = 127.0.0.1:7946 (default)\n"
+unfolding on_checks
+bound-there = refl
 
 two-seeds :
     seeds_spelled

@@ -38,7 +38,7 @@ abbrev pub b-with : List ℕ → List ℕ
 b-with lines = codes "name = \"b\"\n" ++ lines
 
 -- 127.0.0.1 with a port
-abbrev local : ℕ → Addr
+abbrev pub local : ℕ → Addr
 local port = record { ip = V4 (127 ∷ 0 ∷ 0 ∷ 1 ∷ []); port = port }
 
 -- the member b with the default numbers
@@ -57,6 +57,7 @@ usual-with config =
       status_open = false;
       key_file = None;
       leave = true;
+      bind = None;
     }
 
 abbrev pub means : Config → Result NodeConfig FileFault
@@ -121,6 +122,7 @@ all-keys :
       status_open = true;
       key_file = None;
       leave = false;
+      bind = None;
     }
 unfolding on_files
 all-keys = refl

@@ -35,9 +35,13 @@ open_key = codes "status_open"
 abbrev pub leave_key : List ℕ
 leave_key = codes "leave"
 
+-- the key of where the socket for datagrams is bound
+abbrev pub bind_key : List ℕ
+bind_key = codes "bind"
+
 -- the keys of which a value of another type is a fault of its own
 abbrev pub any_keys : List (List ℕ)
-any_keys = status_key ∷ open_key ∷ leave_key ∷ []
+any_keys = status_key ∷ open_key ∷ leave_key ∷ bind_key ∷ []
 
 -- whether a file may give a number of the member's: it may give all but the first number of a probe
 abbrev pub is_file_key : Key → Bool

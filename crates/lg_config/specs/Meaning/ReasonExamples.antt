@@ -21,11 +21,11 @@ use Rattle.lg_config.specs.Meaning.NearestKeys.{nearest_key, nearest_of}
 use Rattle.lg_config.specs.Meaning.Quoting.{quoted}
 use Rattle.lg_config.specs.Meaning.Reasons.{reason_of, IsReason}
 use Rattle.lg_config.specs.Meaning.Settings.{addr_in, dice_in, name_in, settings_of, with_numbers}
-use Rattle.lg_config.specs.Meaning.Texts.{before, behind, octets_of, address_of, seed_of_text}
+use Rattle.lg_config.specs.Meaning.Texts.{before, behind, octets_of, address_of, address_with_port, seed_of_text}
 
 -- what the rows have to unfold
 unfoldable on_texts : ⊤
-unfolding toml_on_literals is_utf8 chars digits before behind octets_of address_of seed_of_text
+unfolding toml_on_literals is_utf8 chars digits before behind octets_of address_of address_with_port seed_of_text
 on_texts = tt
 
 unfoldable on_keys : ⊤
@@ -237,6 +237,16 @@ leave-as-boolean = refl
 near-leave : said (codes "leaves = 1") ≡ Some (codes "the key \"leaves\" is unknown, and the nearest is \"leave\"\n")
 unfolding on_reasons
 near-leave = refl
+
+bind-port-0 :
+    said (codes "bind = \"0.0.0.0:0\"")
+    ≡ Some (codes "bind is \"0.0.0.0:0\", and has to be A.B.C.D or A.B.C.D:PORT, A to D without leading zeros\n")
+unfolding on_reasons
+bind-port-0 = refl
+
+bind-as-number : said (codes "bind = 7946") ≡ Some (codes "bind is of type integer, and has to be of type string\n")
+unfolding on_reasons
+bind-as-number = refl
 
 -- a letter of two bytes and an escape character
 quoted-bytes : quoted (195 ∷ 169 ∷ 27 ∷ codes "a") ≡ codes "\"???a\""

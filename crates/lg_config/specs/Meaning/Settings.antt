@@ -110,8 +110,8 @@ own_number_in key members = number_at_key (node_key_name key) (node_row_of key).
 abbrev pub with_seeds : List Seed → Config → Config
 with_seeds seeds config = record config { seeds = record { items = seeds } }
 
--- All that a document says but of the status server, of the key file, of the group and of leaving, which are read
--- later. It may have too many seeds, or numbers out of their ranges; that is judged later.
+-- All that a document says but of the status server, of the key file, of the group, of leaving and of where the socket
+-- is bound, which are read later. It may have too many seeds, or numbers out of their ranges; that is judged later.
 unfoldable pub settings_of : Members → Option NodeConfig
 settings_of members = do
   name ← name_in members
@@ -127,4 +127,5 @@ settings_of members = do
     status_open = false;
     key_file = None;
     leave = true;
+    bind = None;
   }

@@ -2,11 +2,11 @@
 use Rattle.std.specs.Prelude.{⊤, ◌≡◌, [], ◌∷◌, Some, None, codes, refl}
 use Rattle.std.specs.Str.{chars, is_utf8}
 use Rattle.lg_rules.specs.declared.addr.Ip.TheVariants.{V4}
-use Rattle.lg_config.specs.Meaning.Texts.{before, behind, octets_of, address_of, seed_of_text}
+use Rattle.lg_config.specs.Meaning.Texts.{before, behind, octets_of, address_of, address_with_port, seed_of_text}
 
 -- what the rows have to unfold
 unfoldable on_texts : ⊤
-unfolding is_utf8 chars before behind octets_of address_of seed_of_text
+unfolding is_utf8 chars before behind octets_of address_of address_with_port seed_of_text
 on_texts = tt
 
 four-numbers : octets_of (codes "0.10.100.255") ≡ Some (0 ∷ 10 ∷ 100 ∷ 255 ∷ [])
@@ -37,6 +37,20 @@ five-numbers = refl
 empty-number : octets_of (codes "1..3.4") ≡ None
 unfolding on_texts
 empty-number = refl
+
+-- a port may be missing, and then it is the one that is usual
+port-missing : address_with_port 7001 (codes "0.0.0.0")
+    ≡ Some record { ip = V4 (0 ∷ 0 ∷ 0 ∷ 0 ∷ []); port = 7001 }
+unfolding on_texts
+port-missing = refl
+
+port-there : address_with_port 7001 (codes "0.0.0.0:1") ≡ Some record { ip = V4 (0 ∷ 0 ∷ 0 ∷ 0 ∷ []); port = 1 }
+unfolding on_texts
+port-there = refl
+
+port-empty : address_with_port 7001 (codes "0.0.0.0:") ≡ None
+unfolding on_texts
+port-empty = refl
 
 c-at-65535 : seed_of_text (codes "c@1.2.3.4:65535")
     ≡ Some record { name = 99 ∷ []; addr = record { ip = V4 (1 ∷ 2 ∷ 3 ∷ 4 ∷ []); port = 65535 } }
