@@ -113,10 +113,13 @@ def place_text(place):
 
 
 def seed_in(text):
-    """The name and the place of a seed, None if it is out of its form."""
-    name, sign, behind = text.partition("@")
+    """The name of a seed, None if it has none, and its place. None if the seed is out of its form."""
+    if "@" not in text:
+        place = place_or_port(text, DEFAULT_TEXTS["port"])
+        return place and (None, place)
+    name, _, behind = text.partition("@")
     place = place_in(behind)
-    return (name, place) if sign and place and is_name(name.encode(errors="replace")) else None
+    return (name, place) if place and is_name(name.encode(errors="replace")) else None
 
 
 # ---- What a document means
@@ -188,7 +191,8 @@ def meaning_of(document):
          and values.get("dice", 0) >= 0 and None not in seeds, VALUE)
     values["own_dice"] = own_dice(values["name"], address, values["port"])
     values.setdefault("dice", values["own_dice"])
-    fault = fault_of(values, values["name"], [name for name, _ in seeds])
+    # Seeds without names count, and stand for names that nobody has.
+    fault = fault_of(values, values["name"], [name or (number,) for number, (name, _) in enumerate(seeds)])
     must(fault is None or fault > KEY_FILE, fault)
     for key, (least, most, _, number) in OWN_NUMBERS.items():
         must(least <= values[key] <= most, number)
@@ -206,7 +210,7 @@ def shown(values):
     """The lines of `lg check`."""
     order = ["name", "address", "port", "bind", "dice", "seeds", *FILE_NUMBERS, *OWN_NUMBERS, "status", "status_open",
              "leave", "key_file", "group"]
-    seeds = ", ".join(f"{name}@{place_text(place)}" for name, place in values["seeds"])
+    seeds = ", ".join(f"{name}@{place_text(place)}" if name else place_text(place) for name, place in values["seeds"])
     texts = values | {"seeds": seeds or "none", "status": place_text(values["status"]) if values["status"] else "none",
                       "status_open": str(values["status_open"]).lower(), "key_file": values["key_file"] or "none",
                       "group": values["group"] or "none"}

@@ -71,6 +71,7 @@ def seeds(dice):
     count = dice.choice([0, 1, 2, dice.randrange(16), 16, 17])
     texts = [f"s{number}@{place(dice) if dice.random() < 0.03 else '127.0.0.1:7'}" for number in range(count)]
     texts += [f"{dice.choice(NAMES)}@{place(dice)}"] if dice.random() < 0.3 else []
+    texts = [bound(dice) if dice.random() < 0.2 else it for it in texts] if dice.random() < 0.5 else texts
     items = [spelled(dice, it) for it in texts]
     gap = dice.choice([", ", ",", " ,\n\t", ", # seeds\n"])
     end = dice.choice(["", ",", "\n"]) if items else ""

@@ -73,7 +73,7 @@ pub(crate) fn put_start(
 ) -> Result<(), AllocError>
     ensures { OnOk result (string_bytes text.new ≡ string_bytes text.old ++ start_lines node.now) }
 {
-    let seeds = node.config.seeds.as_slice();
+    let seeds = node.seeds.as_slice();
     let port = u64::from(node.config.addr.port);
     put_number("port", port, u64::from(DEFAULT_PORT), text)?;
     put_bind(alloc, node, text)?;

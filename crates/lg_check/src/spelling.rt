@@ -5,13 +5,13 @@
 ghost use Rattle.std.specs.Prelude.{◌≡◌, ◌++◌, IfOk, OnOk, string_bytes};
 ghost use Rattle.std.specs.List.{flat_map};
 ghost use Rattle.lg_text.specs.Meaning.Addresses.{addr_text, ip_text};
-ghost use Rattle.lg_check.specs.Meaning.Spelling.{next_seed, seed_spelled, seeds_spelled, status_spelled};
-ghost use Rattle.lg_check.specs.Meaning.Spelling.{group_spelled, path_spelled, switch_spelled, truth_spelled};
+ghost use Rattle.lg_check.specs.Meaning.Spelling.{named_spelled, next_seed, seed_spelled, seeds_spelled};
+ghost use Rattle.lg_check.specs.Meaning.Spelling.{group_spelled, path_spelled, status_spelled, switch_spelled};
+ghost use Rattle.lg_check.specs.Meaning.Spelling.{truth_spelled};
 
-use lg_config::FilePath;
+use lg_config::{FilePath, SeedPlace};
 use lg_rules::{Addr, Ip, Name};
 use lg_text::{put_addr, put_ip};
-use lg_timing::Seed;
 use std::alloc::{AllocError, Global};
 use std::str;
 
@@ -44,17 +44,27 @@ pub fn addr_text(alloc: Global, addr: Addr) -> Result<String, AllocError>
     Ok(text)
 }
 
-/// The text NAME@ADDRESS:PORT of a seed.
-fn seed_spelled(alloc: Global, seed: &Seed) -> Result<String, AllocError>
-    ensures { IfOk result (λ text. string_bytes text ≡ seed_spelled seed.now) }
+/// The text NAME@ADDRESS:PORT of a seed that has this name.
+fn named_spelled(alloc: Global, name: &Name, addr: Addr) -> Result<String, AllocError>
+    ensures { IfOk result (λ text. string_bytes text ≡ named_spelled name.now addr) }
 {
-    let addr = addr_text(alloc, seed.addr)?;
-    let name = text_of_name(&seed.name);
+    let addr = addr_text(alloc, addr)?;
+    let name = text_of_name(name);
     format!(in alloc; "{name}@{addr}")
 }
 
+/// The text of a seed: NAME@ADDRESS:PORT, or ADDRESS:PORT if it has no name.
+fn seed_spelled(alloc: Global, seed: &SeedPlace) -> Result<String, AllocError>
+    ensures { IfOk result (λ text. string_bytes text ≡ seed_spelled seed.now) }
+{
+    match &seed.name {
+        Some(name) => named_spelled(alloc, name, seed.addr),
+        None => addr_text(alloc, seed.addr),
+    }
+}
+
 /// Appends seeds to a text, each behind a comma.
-fn put_seeds(alloc: Global, seeds: &[Seed], text: &mut String) -> Result<(), AllocError>
+fn put_seeds(alloc: Global, seeds: &[SeedPlace], text: &mut String) -> Result<(), AllocError>
     ensures { OnOk result (string_bytes text.new ≡ string_bytes text.old ++ flat_map next_seed seeds.now) }
 {
     for seed in seeds {
@@ -65,7 +75,7 @@ fn put_seeds(alloc: Global, seeds: &[Seed], text: &mut String) -> Result<(), All
 }
 
 /// The text of some seeds, with commas between them, or a word for none.
-pub(crate) fn seeds_spelled(alloc: Global, seeds: &[Seed]) -> Result<String, AllocError>
+pub(crate) fn seeds_spelled(alloc: Global, seeds: &[SeedPlace]) -> Result<String, AllocError>
     ensures { IfOk result (λ text. string_bytes text ≡ seeds_spelled seeds.now) }
 {
     match seeds {

@@ -1,9 +1,11 @@
 //! What configuration files mean, value by value. The cases of the program show which files are faulty, and how.
-use lg_config::{DEFAULT_ADDRESS, DEFAULT_PORT, FileFault, MAX_FILE, NodeConfig, reason};
+use lg_config::{
+    DEFAULT_ADDRESS, DEFAULT_PORT, FileFault, MAX_FILE, NodeConfig, SeedPlace, reason,
+};
 use lg_rules::Addr;
 use lg_testing::name;
 
-/// A seed: its name, its address and its port.
+/// A seed: its name, which is empty if it has none, its address and its port.
 type Known = (&'static [u8], [u8; 4], u16);
 
 /// A file of a member b, and what it means.
@@ -19,6 +21,10 @@ struct Row {
     /// `gossip_to`.
     numbers: [u64; 14],
     seeds: &'static [Known],
+    /// The seeds that the member knows from the start.
+    known: &'static [Known],
+    /// Whom the node asks for a table.
+    asked: &'static [([u8; 4], u16)],
     /// Where the status server listens, and `status_open`.
     status: (Option<Addr>, bool),
     /// The path of the key file.
@@ -62,8 +68,39 @@ key_file = \"/etc/lg/group.key\"
 group = \"grn\"
 leave = \"off\"
 bind = \"0.0.0.0\"
-seeds = [\"c@127.0.0.1:7002\", \"a@1.2.3.4:5\"]
+seeds = [\"c@127.0.0.1:7002\", \"10.1.2.4\", \"10.1.2.3:7001\", \"a@1.2.3.4:5\"]
 ";
+
+/// Whether a seed of a file is this one.
+fn is_seed(seed: &SeedPlace, known: &Known) -> bool {
+    let wanted = if known.0.is_empty() {
+        None
+    } else {
+        Some(name(known.0))
+    };
+    seed.name == wanted && seed.addr == Addr::v4(known.1, known.2)
+}
+
+/// Whether the seeds of a configuration are those of a row: all of them, those with names, and those that are asked.
+fn has_seeds(node: &NodeConfig, row: &Row) -> bool {
+    let known = &node.config.seeds;
+    let asked = node.asked();
+    node.seeds.len() == row.seeds.len()
+        && node
+            .seeds
+            .iter()
+            .zip(row.seeds)
+            .all(|(seed, wanted)| is_seed(seed, wanted))
+        && known.len() == row.known.len()
+        && known.iter().zip(row.known).all(|(seed, wanted)| {
+            seed.name == name(wanted.0) && seed.addr == Addr::v4(wanted.1, wanted.2)
+        })
+        && asked.len() == row.asked.len()
+        && asked
+            .iter()
+            .zip(row.asked)
+            .all(|(addr, wanted)| *addr == Addr::v4(wanted.0, wanted.1))
+}
 
 /// Whether a configuration is that of a row.
 fn is_of(node: &NodeConfig, row: &Row) -> bool {
@@ -94,16 +131,13 @@ fn is_of(node: &NodeConfig, row: &Row) -> bool {
         && (node.leave, node.bind) == (row.leave, row.bind)
         && node.bound_at() == row.bind.unwrap_or(config.addr)
         && config.first == 1
-        && config.seeds.len() == row.seeds.len()
-        && config.seeds.iter().zip(row.seeds).all(|(seed, known)| {
-            seed.name == name(known.0) && seed.addr == Addr::v4(known.1, known.2)
-        })
+        && has_seeds(node, row)
 }
 
 /// Each value of some files: one with only its name, one that writes the defaults, one with all keys, one at the other
 /// edges of the node's own numbers, one with the last address of loopback for its status server, one that would allow
-/// any but has no such server, one that lets a request end the node, one whose socket is bound elsewhere, and one whose
-/// address and port the program can't have.
+/// any but has no such server, one that lets a request end the node, one with seeds at the member's own address, one
+/// whose socket is bound elsewhere, and one whose address and port the program can't have.
 #[test]
 fn each_value(rt: HostRuntime) {
     let alone = Row {
@@ -114,6 +148,8 @@ fn each_value(rt: HostRuntime) {
         own: [30_000, 100],
         numbers: USUAL,
         seeds: &[],
+        known: &[],
+        asked: &[],
         status: (None, false),
         key_file: None,
         group: None,
@@ -134,7 +170,18 @@ fn each_value(rt: HostRuntime) {
             dice: 42,
             own: [3_600_000, 0],
             numbers: [200, 50, 0, 1, 2, 3, 4, 5, 6, 7, 3, 86_400_000, 0, 8],
-            seeds: &[(b"c", [127, 0, 0, 1], 7002), (b"a", [1, 2, 3, 4], 5)],
+            seeds: &[
+                (b"c", [127, 0, 0, 1], 7002),
+                (b"", [10, 1, 2, 4], 7946),
+                (b"", [10, 1, 2, 3], 7001),
+                (b"a", [1, 2, 3, 4], 5),
+            ],
+            known: &[(b"c", [127, 0, 0, 1], 7002), (b"a", [1, 2, 3, 4], 5)],
+            asked: &[
+                ([127, 0, 0, 1], 7002),
+                ([10, 1, 2, 4], 7946),
+                ([1, 2, 3, 4], 5),
+            ],
             status: (Some(Addr::v4([10, 1, 2, 3], 8946)), true),
             key_file: Some("/etc/lg/group.key"),
             group: Some(b"grn"),
@@ -158,6 +205,18 @@ fn each_value(rt: HostRuntime) {
         },
         Row {
             text: "name = \"b\"\nleave = \"on\"",
+            ..alone
+        },
+        Row {
+            text: "name = \"b\"\nseeds = [\"a@127.0.0.1:7946\", \"127.0.0.1\", \"127.0.0.1:7947\", \"127.0.0.1:7947\"]",
+            seeds: &[
+                (b"a", [127, 0, 0, 1], 7946),
+                (b"", [127, 0, 0, 1], 7946),
+                (b"", [127, 0, 0, 1], 7947),
+                (b"", [127, 0, 0, 1], 7947),
+            ],
+            known: &[(b"a", [127, 0, 0, 1], 7946)],
+            asked: &[([127, 0, 0, 1], 7947), ([127, 0, 0, 1], 7947)],
             ..alone
         },
         Row {

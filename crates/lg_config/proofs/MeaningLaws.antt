@@ -1,128 +1,23 @@
--- What settings mean, by those with the first of their seeds.
-use Rattle.std.proofs.Common.{unwrap_or, ◌≡◌, ℕ, ◌<◌, ◌≤◌, Bool, true, false, if◌then◌else◌, List, length, leb, nat_lt, Option, Some, None, option_and_then, option_map, Result, Ok, Err, IfOk, refl, ap, sym, ◌∙◌, arith}
-use Rattle.std.proofs.lemmas.Bool.Decides.{nat_tests}
-use Rattle.std.proofs.lemmas.List.{take_all}
-use Rattle.std.proofs.lemmas.Option.{same_Some}
+-- What holds of each configuration that a document means.
+use Rattle.std.proofs.Common.{◌≡◌, ℕ, Bool, true, false, if◌then◌else◌, List, nat_lt, Option, Some, None, Result, Ok, Err, IfOk, refl}
 use Rattle.lg_rules.specs.declared.addr.Addr.{Addr}
 use Rattle.lg_timing.specs.Meaning.Bounds.{most_seeds}
-use Rattle.lg_timing.specs.Meaning.Config.{are_good_seeds, can_name_group, check_of, defaults, fault_checked, first_broken, IsChecked}
-use Rattle.lg_timing.specs.Meaning.Keys.{config_fault_number, is_before_seeds}
-use Rattle.lg_timing.specs.declared.config.Config.{Config}
+use Rattle.lg_timing.specs.Meaning.Config.{check_of, IsChecked}
 use Rattle.lg_timing.specs.declared.config.ConfigFault.{ConfigFault}
-use Rattle.lg_timing.specs.declared.config.ConfigFault.TheVariants.{Seeds}
-use Rattle.lg_timing.specs.declared.config.Seed.{Seed}
-use Rattle.lg_timing.specs.declared.keys.Key.{Key}
 use Rattle.toml.specs.Data.{Members}
-use Rattle.toml.specs.View.{items_view}
-use Rattle.toml.specs.declared.value.Value.{Value}
 use Rattle.lg_config.specs.declared.fault.FileFault.{FileFault}
 use Rattle.lg_config.specs.declared.fault.FileFault.TheVariants as fault
 use Rattle.lg_config.specs.declared.node.NodeConfig.{NodeConfig}
 use Rattle.lg_config.specs.declared.node_keys.NodeKey.{NodeKey}
-use Rattle.lg_config.specs.declared.node_keys.NodeKey.TheVariants.{PullMs, StallMs}
-use Rattle.lg_config.specs.Meaning.Answer.{and_bind, and_group, and_key_file, and_late, and_leave, and_status, is_late, late_meaning_of, meaning_of, unless_broken, unless_config, unless_late, unless_node}
+use Rattle.lg_config.specs.Meaning.Answer.{and_bind, and_group, and_key_file, and_late, and_leave, and_status, fault_of_many, is_late, late_meaning_of, meaning_of, unless_broken, unless_config, unless_late, unless_many, unless_node}
 use Rattle.lg_config.specs.Meaning.Binding.{bind_in, with_bind}
-use Rattle.lg_config.specs.Meaning.Dice.{own_dice}
 use Rattle.lg_config.specs.Meaning.Groups.{group_in, with_group}
 use Rattle.lg_config.specs.Meaning.KeyFiles.{key_file_in, with_key_file}
 use Rattle.lg_config.specs.Meaning.Keys.{are_right_keys}
 use Rattle.lg_config.specs.Meaning.Leaves.{leave_in, with_leave}
 use Rattle.lg_config.specs.Meaning.NodeKeys.{own_broken}
 use Rattle.lg_config.specs.Meaning.Status.{may_listen, open_in, status_addr_in, with_status}
-use Rattle.lg_config.specs.Meaning.Settings.{addr_in, dice_in, name_in, seeds_at, seeds_of_items, settings_of}
-use Rattle.lg_config.specs.Meaning.Settings.{own_number_in, with_numbers, with_seeds}
-use Rattle.lg_config.specs.Support.Reading.{fault_of_many, kept, with_first_seeds}
-use Rattle.lg_config.proofs.SeedLaws.{seeds-counted}
-
--- ---- the check, if the seeds aren't good
-
--- a key that is out of its range, and seeds that aren't good
-key-or-seeds : (key : Key) (good named : Bool) → fault_checked (Some key) false named ≡ Err (fault_of_many (fault_checked (Some key) good named))
-key-or-seeds key good named = step (is_before_seeds key) good refl
-  where
-    step : (before good : Bool) → is_before_seeds key ≡ before → fault_checked (Some key) false named ≡ Err (fault_of_many (fault_checked (Some key) good named))
-    step true true e = rw e refl
-    step true false e = rw (e, e) refl
-    step false true e = rw e refl
-    step false false e = rw e refl
-
-bad-seeds : (broken : Option Key) (good named : Bool) → fault_checked broken false named ≡ Err (fault_of_many (fault_checked broken good named))
-bad-seeds None true true = refl
-bad-seeds None true false = refl
-bad-seeds None false named = refl
-bad-seeds (Some key) good named = key-or-seeds key good named
-
--- too many seeds
-many-seeds : (c : Config) (seeds : List Seed) → most_seeds < length seeds → check_of (with_seeds seeds c) ≡ Err (fault_of_many (check_of (with_seeds (kept seeds) c)))
-unfolding check_of
-many-seeds c seeds many =
-    let past : leb (length seeds) most_seeds ≡ false = grind (arith, nat_tests) in
-    rw past (bad-seeds (first_broken c) (are_good_seeds c.name (kept seeds)) (can_name_group c.group c.wire))
-
--- ---- the seeds that settings have
-
-settings-seeds : (m : Members) (node : NodeConfig) → settings_of m ≡ Some node → seeds_of_items (seeds_at m) ≡ Some node.config.seeds.items
-unfolding settings_of
-settings-seeds m node is = go (name_in m) (addr_in m) (dice_in m) (seeds_of_items (seeds_at m)) is
-  where
-    go : (name : Option (List ℕ)) (addr : Option Addr) (dice : Option (Option ℕ)) (seeds : Option (List Seed))
-        → option_and_then (λ n. option_and_then (λ a. option_and_then (λ d. option_and_then (λ ss. Some (let made : NodeConfig = record { config = with_seeds ss (with_numbers m (defaults n a)); dice = unwrap_or d (own_dice n a); pull_ms = own_number_in PullMs m; stall_ms = own_number_in StallMs m; status = None; status_open = false; key_file = None; leave = true; bind = None } in made)) seeds) dice) addr) name ≡ Some node
-        → seeds ≡ Some node.config.seeds.items
-    go None addr dice seeds e = absurd cc
-    go (Some n) None dice seeds e = absurd cc
-    go (Some n) (Some a) None seeds e = absurd cc
-    go (Some n) (Some a) (Some d) None e = absurd cc
-    go (Some n) (Some a) (Some d) (Some ss) e = ap (option_map (λ made. made.config.seeds.items)) e
-
-settings-counted : (m : Members) (node : NodeConfig) (vs : List Value) → items_view vs ≡ seeds_at m → settings_of m ≡ Some node → length node.config.seeds.items ≡ length vs
-settings-counted m node vs same is = seeds-counted vs node.config.seeds.items (ap seeds_of_items same ∙ settings-seeds m node is)
-
--- ---- what settings mean
-
--- the first seeds are all, where they are few
-few-kept : (node : NodeConfig) → length node.config.seeds.items ≤ most_seeds → with_first_seeds node ≡ node
-few-kept node few = ap (λ seeds. record node { config = with_seeds seeds node.config }) (take_all most_seeds node.config.seeds.items few)
-
-few-checked : (node : NodeConfig) → length node.config.seeds.items ≤ most_seeds → check_of (with_first_seeds node).config ≡ check_of node.config
-few-checked node few = ap (λ n. check_of n.config) (few-kept node few)
-
-many-checked : (node : NodeConfig) → most_seeds < length node.config.seeds.items → check_of node.config ≡ Err (fault_of_many (check_of (with_first_seeds node).config))
-many-checked node many = many-seeds node.config node.config.seeds.items many
-
-checked-kept : (first : NodeConfig) (node : NodeConfig) (r : Result (Unit {0}) ConfigFault) → Some first ≡ Some (with_first_seeds node) → check_of first.config ≡ r → check_of (with_first_seeds node).config ≡ r
-checked-kept first node r same is = ap (λ n. check_of n.config) (sym (same_Some _ _ same)) ∙ is
-
--- The fault of too many seeds, or one that is looked for before it, counts at once.
-many-early : (r : Result (Unit {0}) ConfigFault) → is_late (fault_of_many r) ≡ false
-many-early (Ok passed) = refl
-many-early (Err broken) = step (nat_lt (config_fault_number broken) 11) refl
-  where
-    step : (early : Bool) → nat_lt (config_fault_number broken) 11 ≡ early → is_late (if early then broken else Seeds) ≡ false
-    step true e = grind (arith, nat_tests, e)
-    step false e = refl
-
-pub judged-many : (m : Members) (first : NodeConfig) (vs : List Value) → Some first ≡ option_map with_first_seeds (settings_of m)
-    → items_view vs ≡ seeds_at m → most_seeds < length vs → Err (fault.Config (fault_of_many (check_of first.config))) ≡ unless_node (settings_of m)
-judged-many m first vs found same many = go (settings_of m) refl found
-  where
-    go : (settings : Option NodeConfig) → settings_of m ≡ settings → Some first ≡ option_map with_first_seeds settings → Err (fault.Config (fault_of_many (check_of first.config))) ≡ unless_node settings
-    go None s e = absurd cc
-    go (Some node) s e =
-        let past : most_seeds < length node.config.seeds.items = omega (arith, many, settings-counted m node vs same s) in
-        let found = fault_of_many (check_of first.config) in
-        ap (λ late. if late then unless_broken node (own_broken node) else Err (fault.Config found)) (sym (many-early (check_of first.config)))
-        ∙ ap (unless_config node) (sym (many-checked node past ∙ ap (λ r. Err (fault_of_many r)) (checked-kept first node _ e refl)))
-
--- settings with few seeds are judged as they are checked
-pub judged-few : (m : Members) (first : NodeConfig) (vs : List Value) → Some first ≡ option_map with_first_seeds (settings_of m)
-    → items_view vs ≡ seeds_at m → length vs ≤ most_seeds → unless_config first (check_of first.config) ≡ unless_node (settings_of m)
-judged-few m first vs found same few = go (settings_of m) refl found
-  where
-    go : (settings : Option NodeConfig) → settings_of m ≡ settings → Some first ≡ option_map with_first_seeds settings → unless_config first (check_of first.config) ≡ unless_node settings
-    go None s e = absurd cc
-    go (Some node) s e =
-        let within : length node.config.seeds.items ≤ most_seeds = omega (arith, few, settings-counted m node vs same s) in
-        ap (λ n. unless_config n (check_of n.config)) (same_Some _ _ e ∙ few-kept node within)
+use Rattle.lg_config.specs.Meaning.Settings.{item_count, seeds_at, settings_of}
 
 -- ---- what holds of settings, whatever they say of leaving and of where the socket is bound, is kept
 
@@ -146,6 +41,10 @@ and_leave-kept : (P : NodeConfig → Type 0) → ((node : NodeConfig) (leave : B
 and_leave-kept P same m (Err found) holds = tt
 and_leave-kept P same m (Ok node) holds = leave-kept P same node (leave_in m) holds
 
+-- what a document means, but for what is read later
+abbrev judged_of : Members → Result NodeConfig FileFault
+judged_of m = unless_node (item_count (seeds_at m)) (settings_of m)
+
 -- ---- the node's own numbers of a configuration that is given are in their ranges
 
 abbrev HasWithin : NodeConfig → Type 0
@@ -163,9 +62,16 @@ within-checked node (Err broken) = step (is_late broken)
     step true = within-judged node (own_broken node) refl
     step false = tt
 
-within-node : (settings : Option NodeConfig) → IfOk (unless_node settings) HasWithin
-within-node None = tt
-within-node (Some node) = within-checked node (check_of node.config)
+within-many : (count : ℕ) (node : NodeConfig) → IfOk (unless_many count node) HasWithin
+within-many count node = step (nat_lt most_seeds count)
+  where
+    step : (many : Bool) → IfOk (if many then Err (fault.Config (fault_of_many (check_of node.config))) else unless_config node (check_of node.config)) HasWithin
+    step true = tt
+    step false = within-checked node (check_of node.config)
+
+within-node : (count : ℕ) (settings : Option NodeConfig) → IfOk (unless_node count settings) HasWithin
+within-node count None = tt
+within-node count (Some node) = within-many count node
 
 within-open : (node : NodeConfig) (status : Option Addr) (is_open listens : Bool) → HasWithin node
     → IfOk (if listens then Ok (record node { status = status; status_open = is_open }) else Err fault.StatusNotLoopback) HasWithin
@@ -212,7 +118,7 @@ within-if_right m false r within = tt
 
 within-late_meaning : (m : Members) → IfOk (late_meaning_of m) HasWithin
 within-late_meaning m =
-    within-and_late _ (within-and_group m _ (within-and_late _ (within-and_key_file m _ (within-and_status m _ (within-node (settings_of m))))))
+    within-and_late _ (within-and_group m _ (within-and_late _ (within-and_key_file m _ (within-and_status m _ (within-node (item_count (seeds_at m)) (settings_of m))))))
 
 pub within-meaning : (m : Members) → IfOk (meaning_of m) HasWithin
 within-meaning m =
@@ -270,7 +176,7 @@ guarded-if_right false r guarded = tt
 
 guarded-late_meaning : (m : Members) → IfOk (late_meaning_of m) IsGuarded
 guarded-late_meaning m =
-    guarded-and_late _ (guarded-and_group m _ (guarded-and_late _ (guarded-and_key_file m _ (guarded-and_status m (unless_node (settings_of m))))))
+    guarded-and_late _ (guarded-and_group m _ (guarded-and_late _ (guarded-and_key_file m _ (guarded-and_status m (judged_of m)))))
 
 pub guarded-meaning : (m : Members) → IfOk (meaning_of m) IsGuarded
 guarded-meaning m =
@@ -300,4 +206,4 @@ passed-meaning m =
     passed-if_right (are_right_keys m) (and_bind m (and_leave m (late_meaning_of m)))
     (and_bind-kept HasPassed (λ node bind passed. passed) m (and_leave m (late_meaning_of m))
     (and_leave-kept HasPassed (λ node leave passed. passed) m (late_meaning_of m)
-    (passed-and_late (and_group m (and_late (and_key_file m (and_status m (unless_node (settings_of m)))))))))
+    (passed-and_late (and_group m (and_late (and_key_file m (and_status m (judged_of m))))))))

@@ -24,6 +24,8 @@ pub mod Quoting
 pub mod Ranges
 pub mod ReasonExamples
 pub mod Reasons
+pub mod SeedExamples
+pub mod Seeds
 pub mod Settings
 pub mod Status
 pub mod StatusReasons

@@ -14,7 +14,7 @@ use crate::keys::KEY_FILE;
 use crate::lookup::{seeds_at, text_at};
 use crate::quoting::quoted;
 use crate::ranges::{dice_reason, port_reason};
-use crate::seeds::{first_seeds, seed_of_value};
+use crate::seeds::{first_seeds, known_seeds, seed_of_value};
 use crate::settings::{address_text, dice_at, name_at, name_text, octets_at, port_at};
 use lg_rules::Name;
 use lg_timing::{MAX_SEEDS, Seed};
@@ -57,7 +57,7 @@ fn seed_reason(alloc: Global, table: &Table) -> Result<String, AllocError>
 {
     let quote = quoted(alloc, bad_seed(seeds_at(table)).as_bytes())?;
     format!(in alloc;
-        "the seed {quote} has to be NAME@A.B.C.D:PORT, A to D without leading zeros\n"
+        "the seed {quote} has to be NAME@A.B.C.D:PORT, A.B.C.D:PORT or A.B.C.D, A to D without leading zeros\n"
     )
 }
 
@@ -137,12 +137,15 @@ fn many_seeds_reason(alloc: Global, count: usize) -> Result<String, AllocError>
     format!(in alloc; "there are {count} seeds, and at most 16 are allowed\n")
 }
 
-/// The name that two of the first 16 seeds have which some values spell.
+/// The name that two of the first 16 seeds have that some values spell.
 fn name_shared_by(values: &[Value]) -> Option<Name>
     ensures { result ≡ shared_name (few_seeds (items_view values.now)) }
 {
     match first_seeds(values) {
-        Some(seeds) => shared_name(&seeds),
+        Some(seeds) => {
+            let known = known_seeds(seeds.as_slice());
+            shared_name(known.as_slice())
+        }
         None => None,
     }
 }

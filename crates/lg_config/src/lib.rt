@@ -39,4 +39,5 @@ pub use keys::FILE_KEYS;
 pub use node::NodeConfig;
 pub use node_keys::{MAX_PULL_MS, MAX_STALL_MS, NODE_KEYS, NodeKey, NodeKeyRow};
 pub use reasons::reason;
+pub use seeds::SeedPlace;
 pub use settings::{DEFAULT_ADDRESS, DEFAULT_PORT};

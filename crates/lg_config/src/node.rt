@@ -6,10 +6,9 @@ ghost use Rattle.std.specs.Prelude.{◌≡◌, IfOk, None, true};
 ghost use Rattle.toml.specs.View.{table_view};
 ghost use Rattle.lg_timing.specs.Meaning.Config.{IsChecked};
 ghost use Rattle.lg_timing.specs.Meaning.Config.{check_of};
-ghost use Rattle.lg_config.specs.Meaning.Answer.{is_late, meaning_of, unless_broken, unless_config, unless_late};
-ghost use Rattle.lg_config.specs.Meaning.Answer.{unless_node, IsAnswer};
-ghost use Rattle.lg_config.specs.Meaning.Settings.{settings_of};
-ghost use Rattle.lg_config.specs.Support.Reading.{fault_of_many};
+ghost use Rattle.lg_config.specs.Meaning.Answer.{fault_of_many, is_late, meaning_of, unless_broken, unless_config};
+ghost use Rattle.lg_config.specs.Meaning.Answer.{unless_late, unless_many, unless_node, IsAnswer};
+ghost use Rattle.lg_config.specs.Meaning.Settings.{item_count, seeds_at, settings_of};
 
 use crate::bind::with_bind;
 use crate::document::table_in;
@@ -20,8 +19,10 @@ use crate::keys::are_right_keys;
 use crate::leave::with_leave;
 use crate::lookup::seeds_at;
 use crate::node_keys::{NODE_KEYS, NodeKey};
+use crate::seeds::{SeedPlace, asked_among};
 use crate::settings::settings_in;
 use crate::status::with_status;
+use arrayvec::ArrayVec;
 use lg_rules::Addr;
 use lg_timing::{Config, ConfigFault, MAX_SEEDS};
 use std::alloc::Global;
@@ -52,6 +53,8 @@ pub struct NodeConfig {
     /// Where its socket for datagrams is bound, if its file says it. None if it is bound to the member's address and
     /// port, which the others are told.
     pub bind: Option<Addr>,
+    /// The seeds, in the order of the file. Those that have names are the seeds of the configuration, too.
+    pub seeds: ArrayVec<SeedPlace, MAX_SEEDS>,
 }
 
 /// The fault of a table with too many seeds, given what the check of a configuration with the first of them found. The
@@ -110,17 +113,24 @@ fn unless_late(node: NodeConfig) -> Result<NodeConfig, FileFault>
     }
 }
 
-/// The settings of a table whose keys are right, or their fault. The status server, the path of the key file, the
-/// group, leaving and where the socket is bound aren't read yet, and the faults that count last aren't judged.
-fn judged_in(table: &Table) -> Result<NodeConfig, FileFault>
-    ensures { result ≡ unless_node (settings_of (table_view table.now)) }
+/// The settings of a table with so many seeds, or their fault.
+fn unless_many(node: NodeConfig, count: usize) -> Result<NodeConfig, FileFault>
+    ensures { result ≡ unless_many count node }
 {
-    let node = settings_in(table).ok_or(FileFault::Value)?;
     let checked = node.config.check();
-    if seeds_at(table).len() > MAX_SEEDS {
+    if count > MAX_SEEDS {
         return Err(FileFault::Config(fault_of_many(checked)));
     }
     unless_config(node, checked)
+}
+
+/// The settings of a table whose keys are right, or their fault. The status server, the path of the key file, the
+/// group, leaving and where the socket is bound aren't read yet, and the faults that count last aren't judged.
+fn judged_in(table: &Table) -> Result<NodeConfig, FileFault>
+    ensures { result ≡ unless_node (item_count (seeds_at (table_view table.now))) (settings_of (table_view table.now)) }
+{
+    let node = settings_in(table).ok_or(FileFault::Value)?;
+    unless_many(node, seeds_at(table).len())
 }
 
 /// The configuration that a table means, or its fault.
@@ -143,6 +153,7 @@ fn meaning_in(table: &Table) -> Result<NodeConfig, FileFault>
 impl NodeConfig {
     ghost use Rattle.lg_config.specs.Meaning.Binding.{bound_at};
     ghost use Rattle.lg_config.specs.Meaning.NodeKeys.{own_broken, own_number};
+    ghost use Rattle.lg_config.specs.Meaning.Seeds.{asked_addrs};
     ghost use Rattle.lg_config.specs.Meaning.Status.{may_listen};
 
     /// The number of a key of the node's own.
@@ -160,6 +171,14 @@ impl NodeConfig {
         ensures { result ≡ bound_at self.now }
     {
         self.bind.unwrap_or(self.config.addr)
+    }
+
+    /// The addresses that the node asks for a table, in the order of its file: those of the seeds, but for the member's
+    /// own address and port, so that all members of a group can have the same seeds.
+    pub fn asked(&self) -> ArrayVec<Addr, MAX_SEEDS>
+        ensures { result.items ≡ asked_addrs self.now.config.addr self.now.seeds.items }
+    {
+        asked_among(&self.config.addr, self.seeds.as_slice())
     }
 
     /// The first key of the node's own whose number is out of its range, if there is one.

@@ -3,19 +3,17 @@
 //! Defined in: `specs/Meaning/Settings.antt`.
 //! Tested in: `lg_command_tests/src/config.rt`, `cases/config_forms.case`.
 ghost use Rattle.std.specs.Prelude.{◌≡◌};
-ghost use Rattle.std.specs.Option.{option_map};
 ghost use Rattle.toml.specs.View.{table_view};
 ghost use Rattle.lg_config.specs.Meaning.Settings.{addr_in, address_text, dice_in, name_in, name_text};
 ghost use Rattle.lg_config.specs.Meaning.Settings.{octets_of_member, own_number_in, port_of_member, settings_of};
 ghost use Rattle.lg_config.specs.Meaning.Settings.{with_keys, with_numbers};
-ghost use Rattle.lg_config.specs.Support.Reading.{with_first_seeds};
 
 use crate::dice::own_dice;
 use crate::keys::{FILE_KEYS, NAME};
 use crate::lookup::{integer_at, number_at, seeds_at, text_at};
 use crate::node::NodeConfig;
 use crate::node_keys::NodeKey;
-use crate::seeds::first_seeds;
+use crate::seeds::{first_seeds, known_seeds};
 use crate::texts::{name_in, octets_in, port_among};
 use lg_rules::{Addr, Name};
 use lg_timing::{Config, Key};
@@ -24,7 +22,8 @@ use toml::Table;
 /// The address of a member, if its file doesn't give one (this project's choice).
 pub const DEFAULT_ADDRESS: &str = "127.0.0.1";
 
-/// The port of a member, if its file doesn't give one (this project's choice).
+/// The port of a member, if its file doesn't give one, and of a seed without a name that gives none (this project's
+/// choice).
 pub const DEFAULT_PORT: u16 = 7946;
 
 /// The text of the member's name.
@@ -116,7 +115,7 @@ fn own_number_at(table: &Table, key: NodeKey) -> u64
 /// bound, and of its seeds only the first 16. None if a value is out of its form.
 #[tactic(auto, unfolding(crate::specs::Meaning::Settings::settings_of))]
 pub(crate) fn settings_in(table: &Table) -> Option<NodeConfig>
-    ensures { result ≡ option_map with_first_seeds (settings_of (table_view table.now)) }
+    ensures { result ≡ settings_of (table_view table.now) }
 {
     let name = name_at(table)?;
     let addr = addr_at(table)?;
@@ -124,7 +123,11 @@ pub(crate) fn settings_in(table: &Table) -> Option<NodeConfig>
     let seeds = first_seeds(seeds_at(table))?;
     let dice = dice.unwrap_or(own_dice(&name, &addr));
     let config = with_numbers(table, Config::new(name, addr));
-    let config = Config { seeds, ..config };
+    let known = known_seeds(seeds.as_slice());
+    let config = Config {
+        seeds: known,
+        ..config
+    };
     Some(NodeConfig {
         config,
         dice,
@@ -135,5 +138,6 @@ pub(crate) fn settings_in(table: &Table) -> Option<NodeConfig>
         key_file: None,
         leave: true,
         bind: None,
+        seeds,
     })
 }

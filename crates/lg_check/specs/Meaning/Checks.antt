@@ -53,7 +53,7 @@ start_lines node =
     number_line (codes "port") node.config.addr.port default_port
     ++ bind_line node
     ++ number_line (codes "dice") node.dice (own_dice node.config.name node.config.addr)
-    ++ key_line (codes "seeds") (seeds_spelled node.config.seeds.items) (length node.config.seeds.items == 0)
+    ++ key_line (codes "seeds") (seeds_spelled node.seeds.items) (length node.seeds.items == 0)
 
 -- the line of a number of the member's, and of one of the node's own
 abbrev pub member_line : Config → Key → List ℕ

@@ -40,6 +40,7 @@ usual =
       key_file = None;
       leave = true;
       bind = None;
+      seeds = record { items = [] };
     }
 
 -- the times of the table in the documents, by the default numbers: 5.0 s; 6.0 and 36.1 s; 9.0 and 54.2 s; 12.0 and
@@ -95,9 +96,9 @@ bound-there = refl
 
 two-seeds :
     seeds_spelled
-    (record { name = 97 ∷ []; addr = addr_of (127 ∷ 0 ∷ 0 ∷ 1 ∷ []) 7101 }
-    ∷ record { name = 99 ∷ []; addr = addr_of (1 ∷ 2 ∷ 3 ∷ 4 ∷ []) 5 } ∷ [])
-    ≡ codes "a@127.0.0.1:7101, c@1.2.3.4:5"
+    (record { name = Some (97 ∷ []); addr = addr_of (127 ∷ 0 ∷ 0 ∷ 1 ∷ []) 7101 }
+    ∷ record { name = None; addr = addr_of (1 ∷ 2 ∷ 3 ∷ 4 ∷ []) 5 } ∷ [])
+    ≡ codes "a@127.0.0.1:7101, 1.2.3.4:5"
 unfolding on_checks
 two-seeds = refl
 

@@ -2,18 +2,26 @@
 use Rattle.std.specs.Prelude.{ℕ, Bool, true, false, List, [], ◌∷◌, ◌++◌, Option, None, Some, codes}
 use Rattle.std.specs.List.{flat_map}
 use Rattle.lg_rules.specs.declared.addr.Addr.{Addr}
-use Rattle.lg_timing.specs.declared.config.Seed.{Seed}
+use Rattle.lg_config.specs.declared.seeds.SeedPlace.{SeedPlace}
 use Rattle.lg_text.specs.Meaning.Addresses.{addr_text}
 
 -- NAME@ADDRESS:PORT
-abbrev pub seed_spelled : Seed → List ℕ
-seed_spelled seed = seed.name ++ (codes "@" ++ addr_text seed.addr)
+abbrev pub named_spelled : List ℕ → Addr → List ℕ
+named_spelled name addr = name ++ (codes "@" ++ addr_text addr)
 
-abbrev pub next_seed : Seed → List ℕ
+-- the same of a seed, or ADDRESS:PORT if it has no name
+abbrev pub seed_spelled_by : Option (List ℕ) → Addr → List ℕ
+seed_spelled_by None addr = addr_text addr
+seed_spelled_by (Some name) addr = named_spelled name addr
+
+abbrev pub seed_spelled : SeedPlace → List ℕ
+seed_spelled seed = seed_spelled_by seed.name seed.addr
+
+abbrev pub next_seed : SeedPlace → List ℕ
 next_seed seed = codes ", " ++ seed_spelled seed
 
 -- seeds with commas between them, or the word for no seeds
-abbrev pub seeds_spelled : List Seed → List ℕ
+abbrev pub seeds_spelled : List SeedPlace → List ℕ
 seeds_spelled [] = codes "none"
 seeds_spelled (seed ∷ seeds) = seed_spelled seed ++ flat_map next_seed seeds
 

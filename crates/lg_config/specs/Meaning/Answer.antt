@@ -9,9 +9,11 @@ use Rattle.std.specs.Str.{is_utf8}
 use Rattle.toml.specs.Data.{Members}
 use Rattle.toml.specs.Errors.{IsBlank}
 use Rattle.toml.specs.Parse.{parse_document}
+use Rattle.lg_timing.specs.Meaning.Bounds.{most_seeds}
 use Rattle.lg_timing.specs.Meaning.Config.{check_of}
 use Rattle.lg_timing.specs.Meaning.Keys.{config_fault_number}
 use Rattle.lg_timing.specs.declared.config.ConfigFault.{ConfigFault}
+use Rattle.lg_timing.specs.declared.config.ConfigFault.TheVariants.{Seeds}
 use Rattle.lg_config.specs.declared.fault.FileFault.{FileFault}
 use Rattle.lg_config.specs.declared.fault.FileFault.TheVariants as fault
 use Rattle.lg_config.specs.declared.fault.ReadFault.{ReadFault}
@@ -26,7 +28,7 @@ use Rattle.lg_config.specs.Meaning.KeyFiles.{key_file_in, with_key_file}
 use Rattle.lg_config.specs.Meaning.Keys.{are_right_keys}
 use Rattle.lg_config.specs.Meaning.Leaves.{leave_in, with_leave}
 use Rattle.lg_config.specs.Meaning.NodeKeys.{node_row_of, own_broken}
-use Rattle.lg_config.specs.Meaning.Settings.{settings_of}
+use Rattle.lg_config.specs.Meaning.Settings.{item_count, seeds_at, settings_of}
 use Rattle.lg_config.specs.Meaning.Status.{open_in, status_addr_in, with_status}
 
 -- whether bytes are read as TOML: they are few enough, and UTF-8
@@ -53,10 +55,23 @@ unless_config node (Ok passed) = unless_broken node (own_broken node)
 unless_config node (Err broken) =
     if is_late broken then unless_broken node (own_broken node) else Err (fault.Config broken)
 
--- settings, or their fault: a value is out of its form, or a check finds a fault
-abbrev pub unless_node : Option NodeConfig → Result NodeConfig FileFault
-unless_node None = Err fault.Value
-unless_node (Some node) = unless_config node (check_of node.config)
+-- the fault of too many seeds, by what the check of the configuration with the first of them finds: a fault that is
+-- looked for before the seeds, or else that of the seeds
+abbrev pub fault_of_many : Result (Unit {0}) ConfigFault → ConfigFault
+fault_of_many (Ok passed) = Seeds
+fault_of_many (Err broken) =
+    if nat_lt (config_fault_number broken) (config_fault_number Seeds) then broken else Seeds
+
+-- settings of a document with so many seeds, or their fault
+abbrev pub unless_many : ℕ → NodeConfig → Result NodeConfig FileFault
+unless_many count node =
+    if nat_lt most_seeds count then Err (fault.Config (fault_of_many (check_of node.config)))
+    else unless_config node (check_of node.config)
+
+-- the same, or the fault that a value is out of its form
+abbrev pub unless_node : ℕ → Option NodeConfig → Result NodeConfig FileFault
+unless_node count None = Err fault.Value
+unless_node count (Some node) = unless_many count node
 
 -- what a document's settings mean, with the status server that it wants, or the fault that either has
 abbrev pub and_status : Members → Result NodeConfig FileFault → Result NodeConfig FileFault
@@ -94,7 +109,9 @@ and_bind _ (Err found) = Err found
 
 -- what a document whose keys are right means, or its fault, but for those that count if nothing else is wrong
 abbrev pub early_meaning_of : Members → Result NodeConfig FileFault
-early_meaning_of members = and_key_file members (and_status members (unless_node (settings_of members)))
+early_meaning_of members =
+    let judged = unless_node (item_count (seeds_at members)) (settings_of members) in
+    and_key_file members (and_status members judged)
 
 -- The same, with these. The group is read once the check has found no fault of a number. Then the check finds whether
 -- the member may belong to it.

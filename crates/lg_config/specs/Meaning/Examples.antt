@@ -58,6 +58,7 @@ usual-with config =
       key_file = None;
       leave = true;
       bind = None;
+      seeds = record { items = [] };
     }
 
 abbrev pub means : Config → Result NodeConfig FileFault
@@ -123,6 +124,7 @@ all-keys :
       key_file = None;
       leave = false;
       bind = None;
+      seeds = record { items = record { name = Some (99 ∷ []); addr = local 7001 } ∷ [] };
     }
 unfolding on_files
 all-keys = refl

@@ -1,7 +1,6 @@
 -- The reasons of values that are out of their form, and of seeds that don't go together, in words.
-use Rattle.std.specs.Prelude.{ℕ, suc, List, [], ◌∷◌, ◌++◌, codes, decimal, nat_lt, take, if◌then◌else◌}
+use Rattle.std.specs.Prelude.{ℕ, List, [], ◌∷◌, ◌++◌, codes, decimal, nat_lt, if◌then◌else◌}
 use Rattle.std.specs.Prelude.{Option, Some, None, is_none, is_some, unwrap_or}
-use Rattle.std.specs.Option.{option_map}
 use Rattle.toml.specs.Data.{Items, no_items, item, Members, as_str}
 use Rattle.lg_text.specs.Meaning.Lines.{newline}
 use Rattle.lg_timing.specs.Meaning.Bounds.{most_seeds}
@@ -9,8 +8,9 @@ use Rattle.lg_timing.specs.Meaning.Config.{is_seed}
 use Rattle.lg_timing.specs.declared.config.Seed.{Seed}
 use Rattle.lg_config.specs.Meaning.Quoting.{quoted}
 use Rattle.lg_config.specs.Meaning.Ranges.{dice_reason, port_reason}
+use Rattle.lg_config.specs.Meaning.Seeds.{known_seeds}
 use Rattle.lg_config.specs.Meaning.Settings.{address_text, dice_in, name_in, name_text, octets_of_member}
-use Rattle.lg_config.specs.Meaning.Settings.{port_of_member, seed_of_value, seeds_at, seeds_of_items, text_at}
+use Rattle.lg_config.specs.Meaning.Settings.{first_seeds, item_count, port_of_member, seed_of_value, seeds_at, text_at}
 
 -- the first text of an array that is no seed; it is empty if each is one
 abbrev pub bad_seed : Items → List ℕ
@@ -32,7 +32,7 @@ address_reason members =
 abbrev pub seed_reason : Members → List ℕ
 seed_reason members =
     codes "the seed " ++ (quoted (bad_seed (seeds_at members))
-    ++ codes " has to be NAME@A.B.C.D:PORT, A to D without leading zeros\n")
+    ++ codes " has to be NAME@A.B.C.D:PORT, A.B.C.D:PORT or A.B.C.D, A to D without leading zeros\n")
 
 -- the reason of a value that is out of its form: the first of the name, the address, the port, the dice and the seeds
 unfoldable pub value_reason : Members → List ℕ
@@ -52,11 +52,6 @@ key_file_reason members =
     codes "key_file is "
     ++ (quoted (key_file_text members) ++ codes ", and has to have 1 to 255 bytes of printable ASCII\n")
 
--- how many elements an array has
-abbrev pub item_count : Items → ℕ
-item_count no_items = 0
-item_count (item value others) = suc (item_count others)
-
 -- the name of the first of some seeds that a later one has too
 abbrev pub shared_name : List Seed → Option (List ℕ)
 shared_name [] = None
@@ -71,9 +66,9 @@ few_seeds_reason None = codes "a seed has the member's own name\n"
 abbrev pub many_seeds_reason : ℕ → List ℕ
 many_seeds_reason count = codes "there are " ++ (decimal count ++ codes " seeds, and at most 16 are allowed\n")
 
--- the first 16 of the seeds that an array spells
+-- those of the first 16 seeds that have names
 abbrev pub few_seeds : Items → List Seed
-few_seeds values = unwrap_or (option_map (λ seeds. take most_seeds seeds) (seeds_of_items values)) []
+few_seeds values = known_seeds (unwrap_or (first_seeds values) [])
 
 -- the reason of seeds that don't go together: they are too many, two of them have a name, or one has the member's
 unfoldable pub seeds_reason : Items → List ℕ

@@ -112,7 +112,7 @@ three-numbers = refl
 -- the second seed is the first that is none
 bad-seed :
     said (codes "seeds = [\"c@1.2.3.4:1\", \"c\", \"d\"]")
-    ≡ Some (codes "the seed \"c\" has to be NAME@A.B.C.D:PORT, A to D without leading zeros\n")
+    ≡ Some (codes "the seed \"c\" has to be NAME@A.B.C.D:PORT, A.B.C.D:PORT or A.B.C.D, A to D without leading zeros\n")
 unfolding on_reasons
 bad-seed = refl
 

@@ -1,10 +1,11 @@
 -- The configuration that the members of a document mean. None if a value is out of its form. The keys are right.
-use Rattle.std.specs.Prelude.{ℕ, ℤ, pos, negsuc, true, false, List, [], ◌∷◌, codes, Option, Some, None}
+use Rattle.std.specs.Prelude.{ℕ, suc, take, ℤ, pos, negsuc, true, false, List, [], ◌∷◌, codes, Option, Some, None}
 use Rattle.std.specs.Prelude.{option_and_then, unwrap_or}
 use Rattle.std.specs.Option.{option_map}
 use Rattle.toml.specs.Data.{Data, Items, no_items, item, Members, get_member, as_str, as_integer, as_array}
 use Rattle.lg_rules.specs.declared.addr.Addr.{Addr}
 use Rattle.lg_rules.specs.declared.addr.Ip.TheVariants.{V4}
+use Rattle.lg_timing.specs.Meaning.Bounds.{most_seeds}
 use Rattle.lg_timing.specs.Meaning.Config.{defaults}
 use Rattle.lg_timing.specs.Meaning.Keys.{key_name, number_of_key, with_number}
 use Rattle.lg_timing.specs.declared.config.Config.{Config}
@@ -13,10 +14,12 @@ use Rattle.lg_timing.specs.declared.keys.Key.{Key}
 use Rattle.lg_config.specs.declared.node.NodeConfig.{NodeConfig}
 use Rattle.lg_config.specs.declared.node_keys.NodeKey.{NodeKey}
 use Rattle.lg_config.specs.declared.node_keys.NodeKey.TheVariants.{PullMs, StallMs}
+use Rattle.lg_config.specs.declared.seeds.SeedPlace.{SeedPlace}
 use Rattle.lg_config.specs.Meaning.Bounds.{out_of_range, default_address, default_port}
 use Rattle.lg_config.specs.Meaning.Dice.{own_dice}
 use Rattle.lg_config.specs.Meaning.Keys.{file_keys, texts_key}
 use Rattle.lg_config.specs.Meaning.NodeKeys.{node_key_name, node_row_of}
+use Rattle.lg_config.specs.Meaning.Seeds.{known_seeds}
 use Rattle.lg_config.specs.Meaning.Texts.{◌>>=◌, port_among, octets_of, member_name_of, seed_of_text}
 
 -- the text at a key, and the whole number at a key, if there is one
@@ -36,16 +39,25 @@ abbrev pub number_at_key : List ℕ → ℕ → Members → ℕ
 number_at_key key default members = unwrap_or (option_map natural (integer_at key members)) default
 
 -- the seed that an element of an array spells, if it is a text
-abbrev pub seed_of_value : Data → Option Seed
+abbrev pub seed_of_value : Data → Option SeedPlace
 seed_of_value value = option_and_then seed_of_text (as_str value)
 
 -- the seeds that the elements of an array spell, in their order; None if one of them is no seed
-abbrev pub seeds_of_items : Items → Option (List Seed)
+abbrev pub seeds_of_items : Items → Option (List SeedPlace)
 seeds_of_items no_items = Some []
 seeds_of_items (item value others) = do
   seed ← seed_of_value value
   seeds ← seeds_of_items others
   Some (seed ∷ seeds)
+
+-- the first of them, as many as a member may know from the start
+abbrev pub first_seeds : Items → Option (List SeedPlace)
+first_seeds items = option_map (λ seeds. take most_seeds seeds) (seeds_of_items items)
+
+-- how many elements an array has
+abbrev pub item_count : Items → ℕ
+item_count no_items = 0
+item_count (item value others) = suc (item_count others)
 
 -- the elements of the array at the key of the seeds, if there are any
 abbrev pub seeds_at : Members → Items
@@ -111,15 +123,16 @@ abbrev pub with_seeds : List Seed → Config → Config
 with_seeds seeds config = record config { seeds = record { items = seeds } }
 
 -- All that a document says but of the status server, of the key file, of the group, of leaving and of where the socket
--- is bound, which are read later. It may have too many seeds, or numbers out of their ranges; that is judged later.
+-- is bound, which are read later. It may have too many seeds, of which the first are kept, or numbers out of their
+-- ranges; that is judged later.
 unfoldable pub settings_of : Members → Option NodeConfig
 settings_of members = do
   name ← name_in members
   addr ← addr_in members
   dice ← dice_in members
-  seeds ← seeds_of_items (seeds_at members)
+  seeds ← first_seeds (seeds_at members)
   Some record {
-    config = with_seeds seeds (with_numbers members (defaults name addr));
+    config = with_seeds (known_seeds seeds) (with_numbers members (defaults name addr));
     dice = unwrap_or dice (own_dice name addr);
     pull_ms = own_number_in PullMs members;
     stall_ms = own_number_in StallMs members;
@@ -128,4 +141,5 @@ settings_of members = do
     key_file = None;
     leave = true;
     bind = None;
+    seeds = record { items = seeds };
   }

@@ -53,7 +53,7 @@ unfolding on_texts
 port-empty = refl
 
 c-at-65535 : seed_of_text (codes "c@1.2.3.4:65535")
-    ≡ Some record { name = 99 ∷ []; addr = record { ip = V4 (1 ∷ 2 ∷ 3 ∷ 4 ∷ []); port = 65535 } }
+    ≡ Some record { name = Some (99 ∷ []); addr = record { ip = V4 (1 ∷ 2 ∷ 3 ∷ 4 ∷ []); port = 65535 } }
 unfolding on_texts
 c-at-65535 = refl
 
@@ -65,6 +65,7 @@ two-at-signs : seed_of_text (codes "c@d@1.2.3.4:1") ≡ None
 unfolding on_texts
 two-at-signs = refl
 
-no-at-sign : seed_of_text (codes "1.2.3.4:1") ≡ None
+no-at-sign : seed_of_text (codes "1.2.3.4:1")
+    ≡ Some record { name = None; addr = record { ip = V4 (1 ∷ 2 ∷ 3 ∷ 4 ∷ []); port = 1 } }
 unfolding on_texts
 no-at-sign = refl

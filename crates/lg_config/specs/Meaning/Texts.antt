@@ -4,9 +4,10 @@
 use Rattle.std.specs.Prelude.{ℕ, List, Option, Some, None}
 use Rattle.lg_rules.specs.declared.addr.Addr.{Addr}
 use Rattle.lg_rules.specs.declared.addr.Ip.TheVariants.{V4}
-use Rattle.lg_timing.specs.declared.config.Seed.{Seed}
 use Rattle.lg_text.specs.Meaning.Cutting.{colon}
 use Rattle.lg_text.specs.Meaning.Numbers.{port_of}
+use Rattle.lg_config.specs.declared.seeds.SeedPlace.{SeedPlace}
+use Rattle.lg_config.specs.Meaning.Bounds.{default_port}
 pub use Rattle.lg_text.specs.Meaning.Names.{member_name_of}
 pub use Rattle.lg_text.specs.Meaning.Numbers.{port_among}
 pub use Rattle.lg_text.specs.Meaning.Steps.{◌>>=◌}
@@ -37,10 +38,23 @@ address_with_port usual text = do
   port ← port_or usual (behind colon text)
   Some record { ip = V4 octets; port = port }
 
--- a seed, cut at its first `@`: a name stands before it, and an address with its port after it
-unfoldable pub seed_of_text : List ℕ → Option Seed
-seed_of_text text = do
-  name ← member_name_of (before at_sign text)
-  rest ← behind at_sign text
-  addr ← address_of rest
-  Some record { name = name; addr = addr }
+-- a seed with a name: an address with its port stands behind it
+abbrev pub named_seed : List ℕ → List ℕ → Option SeedPlace
+named_seed name-text addr-text = do
+  name ← member_name_of name-text
+  addr ← address_of addr-text
+  Some record { name = Some name; addr = addr }
+
+-- a seed without a name: an address with a port, or without one, and then it is the default port
+abbrev pub nameless_seed : List ℕ → Option SeedPlace
+nameless_seed text = do
+  addr ← address_with_port default_port text
+  Some record { name = None; addr = addr }
+
+-- a seed, by what stands behind its first `@`; it has a name if it has such a sign
+abbrev pub seed_by : List ℕ → Option (List ℕ) → Option SeedPlace
+seed_by text None = nameless_seed text
+seed_by text (Some addr-text) = named_seed (before at_sign text) addr-text
+
+unfoldable pub seed_of_text : List ℕ → Option SeedPlace
+seed_of_text text = seed_by text (behind at_sign text)

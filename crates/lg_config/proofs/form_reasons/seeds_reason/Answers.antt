@@ -1,15 +1,12 @@
-use Rattle.std.proofs.Common.{◌≡◌, ◌<◌, ◌≤◌, true, false, [], ◌∷◌, List, length, ltb, refl, ap, sym, ◌∙◌, arith}
+use Rattle.std.proofs.Common.{◌≡◌, ◌<◌, ◌≤◌, true, false, List, length, ltb, refl, ap, sym, ◌∙◌, arith}
 use Rattle.std.proofs.lemmas.Bool.Decides.{nat_tests}
 use Rattle.toml.specs.View.{items_view}
 use Rattle.toml.specs.declared.value.Value.{Value}
 use Rattle.lg_timing.specs.Meaning.Bounds.{most_seeds}
-use Rattle.lg_config.specs.Meaning.FormReasons.{few_seeds, few_seeds_reason, item_count, many_seeds_reason, seeds_reason, shared_name}
+use Rattle.lg_config.specs.Meaning.FormReasons.{few_seeds, few_seeds_reason, many_seeds_reason, seeds_reason, shared_name}
 use Rattle.lg_config.proofs.ReasonLaws.{said_as}
+use Rattle.lg_config.proofs.SeedLaws.{items-counted}
 use Rattle.lg_config.proofs.form_reasons.seeds_reason.Goals as goal
-
-items-counted : (vs : List Value) → item_count (items_view vs) ≡ length vs
-items-counted [] = refl
-items-counted (v ∷ vs) = omega (arith, items-counted vs)
 
 many : (vs : List Value) → most_seeds < length vs → seeds_reason (items_view vs) ≡ many_seeds_reason (length vs)
 unfolding seeds_reason

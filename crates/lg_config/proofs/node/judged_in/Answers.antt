@@ -1,18 +1,21 @@
-use Rattle.std.proofs.Common.{Err, ap, sym, ◌∙◌}
-use Rattle.toml.specs.View.{table_view}
-use Rattle.lg_config.specs.declared.fault.FileFault.TheVariants as fault
-use Rattle.lg_config.specs.Meaning.Answer.{unless_config}
-use Rattle.lg_config.specs.Support.Reading.{fault_of_many}
-use Rattle.lg_config.proofs.MeaningLaws.{judged-few, judged-many}
+use Rattle.std.proofs.Common.{◌≡◌, List, length, Some, ap, sym, ◌∙◌}
+use Rattle.toml.specs.Data.{Members}
+use Rattle.toml.specs.View.{items_view, table_view}
+use Rattle.toml.specs.declared.value.Value.{Value}
+use Rattle.lg_config.specs.declared.node.NodeConfig.{NodeConfig}
+use Rattle.lg_config.specs.Meaning.Answer.{unless_many, unless_node}
+use Rattle.lg_config.specs.Meaning.Settings.{item_count, seeds_at, settings_of}
+use Rattle.lg_config.proofs.SeedLaws.{items-counted}
 use Rattle.lg_config.proofs.node.judged_in.Goals as goal
 
-pub returns-then-seeds_at-gt-MAX_SEEDS : goal.returns-then-seeds_at-gt-MAX_SEEDS
-returns-then-seeds_at-gt-MAX_SEEDS c =
-    ap (λ found. Err (fault.Config found)) (c.fault_of_many.ensures ∙ ap fault_of_many c.check-checked.ensures)
-    ∙ judged-many (table_view c.args.table.now) c.in_ok-node.node c.seeds_at.result.now (sym c.in_ok-node.ensures.ok_part ∙ c.settings_in.ensures) c.seeds_at.ensures c.if-seeds_at-gt-MAX_SEEDS.true
+-- the seeds are as many as the elements at their key
+judged : (m : Members) (node : NodeConfig) (vs : List Value) → Some node ≡ settings_of m → items_view vs ≡ seeds_at m
+    → unless_many (length vs) node ≡ unless_node (item_count (seeds_at m)) (settings_of m)
+judged m node vs found same =
+    ap (λ count. unless_many count node) (sym (items-counted vs) ∙ ap item_count same)
+    ∙ ap (unless_node (item_count (seeds_at m))) found
 
 pub returns : goal.returns
 returns c =
-    c.unless_config.ensures
-    ∙ ap (unless_config c.in_ok-node.node) c.check-checked.ensures
-    ∙ judged-few (table_view c.args.table.now) c.in_ok-node.node c.seeds_at.result.now (sym c.in_ok-node.ensures.ok_part ∙ c.settings_in.ensures) c.seeds_at.ensures c.if-seeds_at-gt-MAX_SEEDS.false
+    c.unless_many.ensures
+    ∙ judged (table_view c.args.table.now) c.in_ok-node.node c.seeds_at.result.now (sym c.in_ok-node.ensures.ok_part ∙ c.settings_in.ensures) c.seeds_at.ensures

@@ -1,7 +1,7 @@
 use Rattle.std.proofs.Common.{◌≡◌, ◌≤◌, length, take, Some}
 use Rattle.toml.specs.View.{items_view}
 use Rattle.lg_timing.specs.Meaning.Bounds.{most_seeds}
-use Rattle.lg_config.specs.Support.Reading.{first_seeds}
+use Rattle.lg_config.specs.Meaning.Settings.{first_seeds}
 use Rattle.lg_config.proofs.seeds.first_seeds.Given as goal
 
 -- the first seeds of the values so far
