@@ -4,16 +4,17 @@ Python's own reader of TOML says what a document is. It reads TOML 1.0. Where 1.
 """
 
 import hashlib
+import ipaddress
 import re
 import tomllib
 
 from fuzzing.numbers import DEFAULTS, GROUP_FAULT, NUMBERS, fault_of, suspicion_range, timeout
-from fuzzing.wire import is_name
+from fuzzing.wire import THREE, is_name
 
 MOST_BYTES = 65_536
 MOST_DEPTH = 80
 SYNTAX, KEY, VALUE = 12, 13, 14
-STATUS, STATUS_OPEN, STATUS_NOT_LOOPBACK, KEY_FILE, LEAVE, BIND = 18, 19, 20, 21, 27, 28
+STATUS, STATUS_OPEN, STATUS_NOT_LOOPBACK, KEY_FILE, LEAVE, BIND, FAMILY = 18, 19, 20, 21, 27, 28, 29
 TEXT_KEYS = ("name", "address", "key_file", "group")
 INTEGER_KEYS = ("port", "dice")
 # Keys of which a value of another type is a fault of its own.
@@ -24,6 +25,7 @@ DEFAULT_TEXTS = {"address": "127.0.0.1", "port": 7946}
 # The configuration's numbers that a file may have: all but the first number of a probe.
 FILE_NUMBERS = {key: row for key, row in NUMBERS.items() if key != "first"}
 KEYS = {*TEXT_KEYS, *INTEGER_KEYS, *ANY_KEYS, *FILE_NUMBERS, *OWN_NUMBERS, "seeds"}
+LOOPBACK = [0] * 15 + [1]
 SHOWN_MEMBERS = (4, 16, 64, 256)
 # What TOML 1.1 or another reader of dates may take though Python's reader doesn't.
 UNSURE = re.compile(rb"\\[ex]|\{|\d\d:\d\d|\d{4}-\d\d|^\xef\xbb\xbf")
@@ -96,20 +98,43 @@ def address_in(text):
     return parts if len(parts) == 4 and None not in parts else None
 
 
+def ipv6_in(text):
+    """The sixteen numbers of an IPv6 address, None if it is out of its form."""
+    try:
+        return None if "%" in text else list(ipaddress.IPv6Address(text).packed)
+    except ValueError:
+        return None
+
+
 def place_in(text):
-    """The numbers and the port of `A.B.C.D:PORT`, None if the text is out of its form."""
-    before, colon, behind = text.partition(":")
-    address, port = address_in(before), number_in(behind, 1, 65535)
+    """The numbers and the port of `A.B.C.D:PORT` or `[IPV6]:PORT`, None if the text is out of its form."""
+    if text.startswith("["):
+        inner, _, behind = text[1:].partition("]")
+        address, colon, behind = ipv6_in(inner), behind[:1] == ":", behind[1:]
+    else:
+        before, colon, behind = text.partition(":")
+        address = address_in(before)
+    port = number_in(behind, 1, 65535)
     return (address, port) if colon and address and port else None
 
 
 def place_or_port(text, port):
-    """The same of `A.B.C.D:PORT`, or of `A.B.C.D`, which has this port."""
-    return place_in(text if ":" in text else f"{text}:{port}")
+    """The same, or of an address alone, which has this port."""
+    alone = ipv6_in(text)
+    return (alone, port) if alone else place_in(text if ":" in text else f"{text}:{port}")
+
+
+def address_text(address):
+    """An address as RFC 5952 has it; one that stands for an IPv4 address ends with that."""
+    if len(address) == 4:
+        return ".".join(map(str, address))
+    ip = ipaddress.IPv6Address(bytes(address))
+    return f"::ffff:{ip.ipv4_mapped}" if ip.ipv4_mapped else str(ip)
 
 
 def place_text(place):
-    return f"{'.'.join(map(str, place[0]))}:{place[1]}"
+    address = address_text(place[0])
+    return f"[{address}]:{place[1]}" if ":" in address else f"{address}:{place[1]}"
 
 
 def seed_in(text):
@@ -140,7 +165,8 @@ def status_of(document):
         must(place, STATUS)
     is_open = document.get("status_open", False)
     must(isinstance(is_open, bool), STATUS_OPEN)
-    must(place is None or is_open or place[0][0] == 127, STATUS_NOT_LOOPBACK)
+    is_local = place and (place[0] == LOOPBACK or len(place[0]) == 4 and place[0][0] == 127)
+    must(place is None or is_open or is_local, STATUS_NOT_LOOPBACK)
     return place, is_open
 
 
@@ -185,7 +211,7 @@ def meaning_of(document):
     """The values of a document, defaults filled in, by their keys. Raises the first fault."""
     must(all(key in KEYS and is_of_type(key, value) for key, value in document.items()) and "name" in document, KEY)
     values = DEFAULT_TEXTS | document | numbers_of(document)
-    address = address_in(values["address"])
+    address = address_in(values["address"]) or ipv6_in(values["address"])
     seeds = [seed_in(it) for it in document.get("seeds", [])]
     must(is_name(values["name"].encode(errors="replace")) and address and 1 <= values["port"] <= 65535
          and values.get("dice", 0) >= 0 and None not in seeds, VALUE)
@@ -202,8 +228,9 @@ def meaning_of(document):
     values["group"] = group_of(document)
     values["leave"] = leave_of(document)
     values["bind"] = place_text(bind_of(document, address, values["port"]))
+    must(len(address) == 4 or values["wire"] == THREE, FAMILY)
     values["own_place"] = place_text((address, values["port"]))
-    return values | {"address": ".".join(map(str, address)), "seeds": seeds}
+    return values | {"address": address_text(address), "seeds": seeds}
 
 
 def shown(values):

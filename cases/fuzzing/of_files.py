@@ -9,6 +9,8 @@ NAMES = ["b", "a", "c", "A.z_-9", "n" * 32, "n" * 33, "", "a b", "é", "a@b", "-
 ROWS = files.FILE_NUMBERS | files.OWN_NUMBERS | {"port": (1, 65535, 7946), "dice": (0, 2**63 - 1, 1)}
 OCTETS = ["0", "1", "7", "127", "010", "255", "256", "0" * 14 + "10", "0" * 15 + "10", "", "-1", "+1", " 1", "1e1"]
 PATHS = ["group.key", "", "x" * 255, "x" * 256, "a\nb", "\x7f", "é", "/a b/~", "none"]
+IPV6 = ["::1", "::", "2001:db8::5", "2001:DB8:0:0:1:0:0:5", "::ffff:192.0.2.1", "1::2::3", "::1%1", "1:2:3:4:5:6:7",
+        "1:2:3:4:5:6:7:8", "::12345", "1::", ":", "::010.0.0.1"]
 SWITCHES = ["on", "off", "On", "", "true", "on "]
 PORTS = ["1", "7946", "65535", "65536", "0", "00001", "", "x", "-1"]
 # Values of each TOML type and spelling, right or wrong at any key.
@@ -50,6 +52,8 @@ def number_near(dice, row):
 
 def address(dice):
     """An address, which may be out of its form."""
+    if dice.random() < 0.2:
+        return dice.choice(IPV6)
     return ".".join(dice.choice(OCTETS[:4] if dice.random() < 0.9 else OCTETS)
                     for _ in range(dice.choice([4, 4, 4, 4, 4, 4, 3, 5])))
 
@@ -57,6 +61,7 @@ def address(dice):
 def place(dice):
     """An address with a port, often of loopback."""
     where = dice.choice(["127.0.0.1", "127.1.2.3", "0.0.0.0", "128.0.0.1", address(dice)])
+    where = f"[{where}]" if ":" in where and dice.random() < 0.9 else where
     port = dice.choice(PORTS[:3] if dice.random() < 0.9 else PORTS)
     return where + dice.choice([":", ":", ":", ":", "", "::"]) + port
 
@@ -119,7 +124,7 @@ class Files(RunKind):
     wrong_rules = (
         (files, "MOST_DEPTH", 0), (files, "TEXT_KEYS", ("name",)), (files, "SYNTAX", 13), (files, "VALUE", 11),
         (files, "SHOWN_MEMBERS", (4, 16, 32, 256)), (files, "STATUS_NOT_LOOPBACK", 19),
-        (files, "KEY_FILE", 20), (files, "GROUP_FAULT", 25), (files, "LEAVE", 26), (files, "BIND", 27),
+        (files, "KEY_FILE", 20), (files, "GROUP_FAULT", 25), (files, "LEAVE", 26), (files, "BIND", 27), (files, "FAMILY", 28),
         (files, "OWN_NUMBERS", files.OWN_NUMBERS | {"pull_ms": (1, 3_600_000, 30_000, 16)}),
         (numbers, "MOST_SEEDS", 15), (numbers, "MAY_BE_OFF", ()),
         (numbers, "RATIOS", [[900], [0, 1000], *numbers.RATIOS[2:]]))
@@ -131,8 +136,9 @@ class Files(RunKind):
         dice.shuffle(keys)
         # Mostly one key or two have a value that may be wrong, so that no other fault hides theirs.
         wild = set(dice.sample(keys, min(len(keys), dice.choice([0, 1, 1, 1, 2, len(keys)]))))
-        # A member of a group mostly sends version three.
-        fixed = ["wire = 3"] if "group" in keys and dice.random() < 0.9 else []
+        # A member of a group mostly sends version three, and one with an address, which may be IPv6, half the time.
+        share = 0.9 if "group" in keys else 0.5 if "address" in keys else 0
+        fixed = ["wire = 3"] if dice.random() < share else []
         lines = fixed + [line(dice, key, key in wild) for key in keys if key != "wire" or not fixed]
         if dice.random() < 0.05:
             other = dice.choice(["", "# words", "[table]", "[[rows]]", "\t", "=", "\r"])

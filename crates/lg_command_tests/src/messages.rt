@@ -159,18 +159,28 @@ const FILES: &[(FileFault, &str)] = &[
     ),
     (FileFault::Pull, "pull_ms has to be 0 to 3600000"),
     (FileFault::Stall, "stall_ms has to be 0 to 60000"),
-    (FileFault::Status, "status has to be A.B.C.D:PORT"),
+    (
+        FileFault::Status,
+        "status has to be A.B.C.D:PORT, or an IPv6 address in brackets before :PORT",
+    ),
     (FileFault::StatusOpen, "status_open has to be true or false"),
     (
         FileFault::StatusNotLoopback,
-        "status has to be in 127.0.0.0/8 if status_open isn't true",
+        "status has to be in 127.0.0.0/8 or ::1 if status_open isn't true",
     ),
     (
         FileFault::KeyFile,
         "key_file has to have 1 to 255 bytes of printable ASCII",
     ),
     (FileFault::Leave, "leave has to be \"on\" or \"off\""),
-    (FileFault::Bind, "bind has to be A.B.C.D or A.B.C.D:PORT"),
+    (
+        FileFault::Bind,
+        "bind has to be A.B.C.D or A.B.C.D:PORT, or the same of IPv6",
+    ),
+    (
+        FileFault::Family,
+        "a member with an IPv6 address has to have wire = 3",
+    ),
 ];
 
 const READS: &[(ReadFault, &str)] = &[

@@ -9,8 +9,9 @@ use Rattle.lg_config.specs.declared.fault.FileFault.{FileFault}
 use Rattle.lg_config.specs.declared.fault.FileFault.TheVariants as fault
 use Rattle.lg_config.specs.declared.node.NodeConfig.{NodeConfig}
 use Rattle.lg_config.specs.declared.node_keys.NodeKey.{NodeKey}
-use Rattle.lg_config.specs.Meaning.Answer.{and_bind, and_group, and_key_file, and_late, and_leave, and_status, fault_of_many, is_late, late_meaning_of, meaning_of, unless_broken, unless_config, unless_late, unless_many, unless_node}
+use Rattle.lg_config.specs.Meaning.Answer.{and_bind, and_group, and_key_file, and_late, and_leave, and_status, and_told, fault_of_many, is_late, late_meaning_of, meaning_of, unless_broken, unless_config, unless_late, unless_many, unless_node}
 use Rattle.lg_config.specs.Meaning.Binding.{bind_in, with_bind}
+use Rattle.lg_config.specs.Meaning.Families.{tells_own, unless_untold}
 use Rattle.lg_config.specs.Meaning.Groups.{group_in, with_group}
 use Rattle.lg_config.specs.Meaning.KeyFiles.{key_file_in, with_key_file}
 use Rattle.lg_config.specs.Meaning.Keys.{are_right_keys}
@@ -40,6 +41,18 @@ and_leave-kept : (P : NodeConfig → Type 0) → ((node : NodeConfig) (leave : B
     → (m : Members) (r : Result NodeConfig FileFault) → IfOk r P → IfOk (and_leave m r) P
 and_leave-kept P same m (Err found) holds = tt
 and_leave-kept P same m (Ok node) holds = leave-kept P same node (leave_in m) holds
+
+-- and it is kept whether packets can tell the address or not
+told-kept : (P : NodeConfig → Type 0) (node : NodeConfig) → P node → IfOk (unless_untold node) P
+told-kept P node holds = step (tells_own node.config)
+  where
+    step : (told : Bool) → IfOk (if told then Ok node else Err fault.Family) P
+    step true = holds
+    step false = tt
+
+and_told-kept : (P : NodeConfig → Type 0) (r : Result NodeConfig FileFault) → IfOk r P → IfOk (and_told r) P
+and_told-kept P (Err found) holds = tt
+and_told-kept P (Ok node) holds = told-kept P node holds
 
 -- what a document means, but for what is read later
 abbrev judged_of : Members → Result NodeConfig FileFault
@@ -122,9 +135,10 @@ within-late_meaning m =
 
 pub within-meaning : (m : Members) → IfOk (meaning_of m) HasWithin
 within-meaning m =
-    within-if_right m (are_right_keys m) (and_bind m (and_leave m (late_meaning_of m)))
+    within-if_right m (are_right_keys m) (and_told (and_bind m (and_leave m (late_meaning_of m))))
+    (and_told-kept HasWithin (and_bind m (and_leave m (late_meaning_of m)))
     (and_bind-kept HasWithin (λ node bind within. within) m (and_leave m (late_meaning_of m))
-    (and_leave-kept HasWithin (λ node leave within. within) m (late_meaning_of m) (within-late_meaning m)))
+    (and_leave-kept HasWithin (λ node leave within. within) m (late_meaning_of m) (within-late_meaning m))))
 
 -- ---- and the status server of a configuration that is given may listen where it is to
 
@@ -180,9 +194,10 @@ guarded-late_meaning m =
 
 pub guarded-meaning : (m : Members) → IfOk (meaning_of m) IsGuarded
 guarded-meaning m =
-    guarded-if_right (are_right_keys m) (and_bind m (and_leave m (late_meaning_of m)))
+    guarded-if_right (are_right_keys m) (and_told (and_bind m (and_leave m (late_meaning_of m))))
+    (and_told-kept IsGuarded (and_bind m (and_leave m (late_meaning_of m)))
     (and_bind-kept IsGuarded (λ node bind guarded. guarded) m (and_leave m (late_meaning_of m))
-    (and_leave-kept IsGuarded (λ node leave guarded. guarded) m (late_meaning_of m) (guarded-late_meaning m)))
+    (and_leave-kept IsGuarded (λ node leave guarded. guarded) m (late_meaning_of m) (guarded-late_meaning m))))
 
 -- ---- and the member's configuration passes its check
 
@@ -203,7 +218,8 @@ passed-if_right false r passed = tt
 
 pub passed-meaning : (m : Members) → IfOk (meaning_of m) HasPassed
 passed-meaning m =
-    passed-if_right (are_right_keys m) (and_bind m (and_leave m (late_meaning_of m)))
+    passed-if_right (are_right_keys m) (and_told (and_bind m (and_leave m (late_meaning_of m))))
+    (and_told-kept HasPassed (and_bind m (and_leave m (late_meaning_of m)))
     (and_bind-kept HasPassed (λ node bind passed. passed) m (and_leave m (late_meaning_of m))
     (and_leave-kept HasPassed (λ node leave passed. passed) m (late_meaning_of m)
-    (passed-and_late (and_group m (and_late (and_key_file m (and_status m (judged_of m))))))))
+    (passed-and_late (and_group m (and_late (and_key_file m (and_status m (judged_of m)))))))))

@@ -6,6 +6,8 @@ pub mod Binding
 pub mod Bounds
 pub mod Dice
 pub mod Examples
+pub mod Families
+pub mod FamilyExamples
 pub mod Faults
 pub mod FormReasons
 pub mod GroupExamples

@@ -23,7 +23,7 @@ fn no_place_reason(alloc: Global, value: &Value) -> Result<String, AllocError>
     };
     let quote = quoted(alloc, text.as_bytes())?;
     format!(in alloc;
-        "bind is {quote}, and has to be A.B.C.D or A.B.C.D:PORT, A to D without leading zeros\n"
+        "bind is {quote}, and has to be A.B.C.D or A.B.C.D:PORT, A to D without leading zeros, or IPv6\n"
     )
 }
 

@@ -35,14 +35,14 @@ pub enum FileFault {
     /// `stall_ms` isn't 0 to 60,000.
     #[error("stall_ms has to be 0 to {most}", most = MAX_STALL_MS)]
     Stall,
-    /// `status` is no text, or isn't `A.B.C.D:PORT`.
-    #[error("status has to be A.B.C.D:PORT")]
+    /// `status` is no text, or is neither `A.B.C.D:PORT` nor an IPv6 address in brackets before `:PORT`.
+    #[error("status has to be A.B.C.D:PORT, or an IPv6 address in brackets before :PORT")]
     Status,
     /// `status_open` is no boolean.
     #[error("status_open has to be true or false")]
     StatusOpen,
     /// The address of `status` isn't loopback, and `status_open` isn't true.
-    #[error("status has to be in 127.0.0.0/8 if status_open isn't true")]
+    #[error("status has to be in 127.0.0.0/8 or ::1 if status_open isn't true")]
     StatusNotLoopback,
     /// `key_file` has no bytes, more than 255, or one that isn't printable ASCII.
     #[error("key_file has to have 1 to {most} bytes of printable ASCII", most = MAX_PATH)]
@@ -50,13 +50,16 @@ pub enum FileFault {
     /// `leave` is no text, or neither `on` nor `off`.
     #[error("leave has to be \"on\" or \"off\"")]
     Leave,
-    /// `bind` is no text, or is neither `A.B.C.D` nor `A.B.C.D:PORT`.
-    #[error("bind has to be A.B.C.D or A.B.C.D:PORT")]
+    /// `bind` is no text, or is neither an address nor one with its port.
+    #[error("bind has to be A.B.C.D or A.B.C.D:PORT, or the same of IPv6")]
     Bind,
+    /// The member's own address is one of IPv6, and `wire` isn't 3.
+    #[error("a member with an IPv6 address has to have wire = 3")]
+    Family,
 }
 
 impl FileFault {
-    /// The number of the fault: that of [`ConfigFault::number`], or 12, 13, 14, 16 to 21, 27 or 28 for the others.
+    /// The number of the fault: that of [`ConfigFault::number`], or 12, 13, 14, 16 to 21 or 27 to 29 for the others.
     pub fn number(self) -> u8
         ensures { result ≡ fault_number self }
     {
@@ -73,6 +76,7 @@ impl FileFault {
             FileFault::KeyFile => 21,
             FileFault::Leave => 27,
             FileFault::Bind => 28,
+            FileFault::Family => 29,
         }
     }
 }

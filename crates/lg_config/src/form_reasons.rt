@@ -15,7 +15,7 @@ use crate::lookup::{seeds_at, text_at};
 use crate::quoting::quoted;
 use crate::ranges::{dice_reason, port_reason};
 use crate::seeds::{first_seeds, known_seeds, seed_of_value};
-use crate::settings::{address_text, dice_at, name_at, name_text, octets_at, port_at};
+use crate::settings::{address_text, dice_at, ip_at, name_at, name_text, port_at};
 use lg_rules::Name;
 use lg_timing::{MAX_SEEDS, Seed};
 use std::alloc::{AllocError, Global};
@@ -47,7 +47,7 @@ fn address_reason(alloc: Global, table: &Table) -> Result<String, AllocError>
 {
     let quote = quoted(alloc, address_text(table).as_bytes())?;
     format!(in alloc;
-        "address is {quote}, and has to be A.B.C.D, each from 0 to 255 without leading zeros\n"
+        "address is {quote}, and has to be A.B.C.D, each from 0 to 255 without leading zeros, or IPv6\n"
     )
 }
 
@@ -57,7 +57,7 @@ fn seed_reason(alloc: Global, table: &Table) -> Result<String, AllocError>
 {
     let quote = quoted(alloc, bad_seed(seeds_at(table)).as_bytes())?;
     format!(in alloc;
-        "the seed {quote} has to be NAME@A.B.C.D:PORT, A.B.C.D:PORT or A.B.C.D, A to D without leading zeros\n"
+        "the seed {quote} has to be NAME@A.B.C.D:PORT, A.B.C.D:PORT or A.B.C.D, A to D without leading zeros, or IPv6\n"
     )
 }
 
@@ -69,7 +69,7 @@ pub(crate) fn value_reason(alloc: Global, table: &Table) -> Result<String, Alloc
     if name_at(table).is_none() {
         return name_reason(alloc, table);
     }
-    if octets_at(table).is_none() {
+    if ip_at(table).is_none() {
         return address_reason(alloc, table);
     }
     if port_at(table).is_none() {

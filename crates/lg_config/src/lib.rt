@@ -9,6 +9,7 @@ mod bind;
 mod bind_reasons;
 mod dice;
 mod document;
+mod family;
 mod fault;
 mod form_reasons;
 mod group;

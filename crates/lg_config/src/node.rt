@@ -12,6 +12,7 @@ ghost use Rattle.lg_config.specs.Meaning.Settings.{item_count, seeds_at, setting
 
 use crate::bind::with_bind;
 use crate::document::table_in;
+use crate::family::unless_untold;
 use crate::fault::{FileFault, ReadFault};
 use crate::group::with_group;
 use crate::key_file::{FilePath, with_key_file};
@@ -43,7 +44,7 @@ pub struct NodeConfig {
     pub stall_ms: u64,
     /// Where the node's status server listens. None if the node has no such server.
     pub status: Option<Addr>,
-    /// Whether the status server may listen at an address that isn't loopback (127.0.0.0/8). Its answers have no
+    /// Whether the status server may listen at an address that isn't loopback (127.0.0.0/8 or ::1). Its answers have no
     /// authentication. If there is no status server, this means nothing.
     pub status_open: bool,
     /// The path of its key file, which has the keys of its group. None if the group has no key.
@@ -147,7 +148,8 @@ fn meaning_in(table: &Table) -> Result<NodeConfig, FileFault>
     let node = with_group(table, node)?;
     let node = unless_late(node)?;
     let node = with_leave(table, node)?;
-    with_bind(table, node)
+    let node = with_bind(table, node)?;
+    unless_untold(node)
 }
 
 impl NodeConfig {
@@ -199,8 +201,8 @@ impl NodeConfig {
     /// [`FileFault::Syntax`], [`FileFault::Key`], [`FileFault::Value`], [`FileFault::Config`], [`FileFault::Pull`],
     /// [`FileFault::Stall`], [`FileFault::Status`], [`FileFault::StatusOpen`], [`FileFault::StatusNotLoopback`] and
     /// [`FileFault::KeyFile`]. A [`FileFault::Config`] whose number is greater than that of `KeyFile` comes behind all
-    /// of these, and [`FileFault::Leave`] and [`FileFault::Bind`] come last. Or the error is [`ReadFault::NoMemory`],
-    /// and then nothing is known of the file.
+    /// of these, and [`FileFault::Leave`], [`FileFault::Bind`] and [`FileFault::Family`] come last. Or the error is
+    /// [`ReadFault::NoMemory`], and then nothing is known of the file.
     ///
     /// Memory is allocated for the table that the file spells, and is freed again. For a file of more than
     /// [`MAX_FILE`](crate::MAX_FILE) bytes none is allocated.

@@ -10,6 +10,7 @@ ghost use Rattle.lg_config.specs.Meaning.Reasons.{unnumbered_reason, IsReason, I
 
 use crate::bind_reasons::bind_reason;
 use crate::document::{Unread, table_in};
+use crate::family::family_reason;
 use crate::fault::FileFault;
 use crate::form_reasons::{key_file_reason, seeds_reason, value_reason};
 use crate::group_reasons::group_reason;
@@ -75,6 +76,7 @@ fn reason_of(alloc: Global, fault: FileFault, table: &Table) -> Result<String, A
         FileFault::KeyFile => key_file_reason(alloc, table),
         FileFault::Leave => leave_reason(alloc, table),
         FileFault::Bind => bind_reason(alloc, table),
+        FileFault::Family => family_reason(alloc, table),
     }
 }
 

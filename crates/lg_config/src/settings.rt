@@ -5,7 +5,7 @@
 ghost use Rattle.std.specs.Prelude.{◌≡◌};
 ghost use Rattle.toml.specs.View.{table_view};
 ghost use Rattle.lg_config.specs.Meaning.Settings.{addr_in, address_text, dice_in, name_in, name_text};
-ghost use Rattle.lg_config.specs.Meaning.Settings.{octets_of_member, own_number_in, port_of_member, settings_of};
+ghost use Rattle.lg_config.specs.Meaning.Settings.{ip_of_member, own_number_in, port_of_member, settings_of};
 ghost use Rattle.lg_config.specs.Meaning.Settings.{with_keys, with_numbers};
 
 use crate::dice::own_dice;
@@ -14,8 +14,8 @@ use crate::lookup::{integer_at, number_at, seeds_at, text_at};
 use crate::node::NodeConfig;
 use crate::node_keys::NodeKey;
 use crate::seeds::{first_seeds, known_seeds};
-use crate::texts::{name_in, octets_in, port_among};
-use lg_rules::{Addr, Name};
+use crate::texts::{ip_in, name_in, port_among};
+use lg_rules::{Addr, Ip, Name};
 use lg_timing::{Config, Key};
 use toml::Table;
 
@@ -48,11 +48,11 @@ pub(crate) fn name_at(table: &Table) -> Option<Name>
     name_in(name_text(table).as_bytes())
 }
 
-/// The four numbers of the member's address. None if the address of the table is out of its form.
-pub(crate) fn octets_at(table: &Table) -> Option<[u8; 4]>
-    ensures { result ≡ octets_of_member (table_view table.now) }
+/// The member's IP address. None if the address of the table is out of its form.
+pub(crate) fn ip_at(table: &Table) -> Option<Ip>
+    ensures { result ≡ ip_of_member (table_view table.now) }
 {
-    octets_in(address_text(table).as_bytes())
+    ip_in(address_text(table))
 }
 
 /// The member's port. None if the port of the table isn't 1 to 65535.
@@ -67,9 +67,9 @@ pub(crate) fn port_at(table: &Table) -> Option<u16>
 fn addr_at(table: &Table) -> Option<Addr>
     ensures { result ≡ addr_in (table_view table.now) }
 {
-    let octets = octets_at(table)?;
+    let ip = ip_at(table)?;
     let port = port_at(table)?;
-    Some(Addr::v4(octets, port))
+    Some(Addr { ip, port })
 }
 
 /// The number that the dice start from, if the table gives one. The outer None says that it is negative.

@@ -24,7 +24,7 @@ fn no_address_reason(alloc: Global, value: &Value) -> Result<String, AllocError>
     };
     let quote = quoted(alloc, text.as_bytes())?;
     format!(in alloc;
-        "status is {quote}, and has to be A.B.C.D:PORT, A to D without leading zeros\n"
+        "status is {quote}, and has to be A.B.C.D:PORT, A to D without leading zeros, or [IPv6]:PORT\n"
     )
 }
 
@@ -60,5 +60,7 @@ pub(crate) fn loopback_reason(alloc: Global, table: &Table) -> Result<String, Al
     ensures { IfOk result (λ text. string_bytes text ≡ loopback_reason (table_view table.now)) }
 {
     let quote = quoted(alloc, status_addr_text(table).as_bytes())?;
-    format!(in alloc; "status is {quote}, and has to be in 127.0.0.0/8 if status_open isn't true\n")
+    format!(in alloc;
+        "status is {quote}, and has to be in 127.0.0.0/8 or ::1 if status_open isn't true\n"
+    )
 }

@@ -92,7 +92,7 @@ const ENDS: [(Of, u8, &str); 25] = [
 ];
 
 /// Each fault of a file with its number and its line.
-const FAULTS: [(FileFault, u8, &str); 28] = [
+const FAULTS: [(FileFault, u8, &str); 29] = [
     (
         FileFault::Config(ConfigFault::Interval),
         1,
@@ -153,6 +153,7 @@ const FAULTS: [(FileFault, u8, &str); 28] = [
     (FileFault::Config(ConfigFault::Group), 26, "lg: config 26\n"),
     (FileFault::Leave, 27, "lg: config 27\n"),
     (FileFault::Bind, 28, "lg: config 28\n"),
+    (FileFault::Family, 29, "lg: config 29\n"),
 ];
 
 /// Each end has its status and its line, and each fault of a file its number, the status 3 and its line.

@@ -2,7 +2,7 @@
 -- of its keys and their types, of the form of a value, of the configuration's own check, of the node's own numbers, of
 -- the status server, of the path of the key file. Of the check's faults those with greater numbers than the node's own
 -- come behind all of these, and that of the group comes last of them. Then come that of whether a request may end the
--- node, and that of where its socket is bound.
+-- node, that of where its socket is bound, and that its packets can't tell its own address.
 use Rattle.std.specs.Prelude.{ℕ, Bool, ◌&&◌, nat_le, nat_lt, List, length, Option, Some, None, Result, Ok, Err}
 use Rattle.std.specs.Prelude.{if◌then◌else◌, ◌≡◌, true}
 use Rattle.std.specs.Str.{is_utf8}
@@ -22,6 +22,7 @@ use Rattle.lg_config.specs.declared.node.NodeConfig.{NodeConfig}
 use Rattle.lg_config.specs.declared.node_keys.NodeKey.{NodeKey}
 use Rattle.lg_config.specs.Meaning.Binding.{bind_in, with_bind}
 use Rattle.lg_config.specs.Meaning.Bounds.{most_bytes}
+use Rattle.lg_config.specs.Meaning.Families.{unless_untold}
 use Rattle.lg_config.specs.Meaning.Faults.{fault_number}
 use Rattle.lg_config.specs.Meaning.Groups.{group_in, with_group}
 use Rattle.lg_config.specs.Meaning.KeyFiles.{key_file_in, with_key_file}
@@ -107,6 +108,11 @@ abbrev pub and_bind : Members → Result NodeConfig FileFault → Result NodeCon
 and_bind members (Ok node) = with_bind node (bind_in node.config.addr.port members)
 and_bind _ (Err found) = Err found
 
+-- the same, unless its packets can't tell its own address
+abbrev pub and_told : Result NodeConfig FileFault → Result NodeConfig FileFault
+and_told (Ok node) = unless_untold node
+and_told (Err found) = Err found
+
 -- what a document whose keys are right means, or its fault, but for those that count if nothing else is wrong
 abbrev pub early_meaning_of : Members → Result NodeConfig FileFault
 early_meaning_of members =
@@ -121,7 +127,8 @@ late_meaning_of members = and_late (and_group members (and_late (early_meaning_o
 -- what a document means, or the fault Key if its keys are wrong
 abbrev pub meaning_of : Members → Result NodeConfig FileFault
 meaning_of members =
-    if are_right_keys members then and_bind members (and_leave members (late_meaning_of members)) else Err fault.Key
+    if are_right_keys members then and_told (and_bind members (and_leave members (late_meaning_of members)))
+    else Err fault.Key
 
 -- what a file means, or the fault Syntax if it is no document
 abbrev pub unless_syntax : Option Members → Result NodeConfig FileFault

@@ -11,7 +11,7 @@ abbrev pub no_place_reason : Data → Option (List ℕ) → List ℕ
 no_place_reason value None = type_reason (codes "string") bind_key value
 no_place_reason value (Some text) =
     codes "bind is " ++ (quoted text
-    ++ codes ", and has to be A.B.C.D or A.B.C.D:PORT, A to D without leading zeros\n")
+    ++ codes ", and has to be A.B.C.D or A.B.C.D:PORT, A to D without leading zeros, or IPv6\n")
 
 -- the same, by the value at the key
 abbrev pub bind_value_reason : Option Data → List ℕ

@@ -18,11 +18,12 @@ use Rattle.lg_config.specs.Meaning.Dice.{own_dice}
 use Rattle.lg_config.specs.Meaning.KeyFiles.{path_of}
 use Rattle.lg_config.specs.Meaning.Keys.{file_key_named, kind_of_key}
 use Rattle.lg_config.specs.Meaning.Settings.{addr_in, dice_in, name_in, settings_of, with_numbers}
+use Rattle.lg_text.specs.Meaning.AddressExamples.{on_addresses}
 use Rattle.lg_config.specs.Meaning.Texts.{before, behind, octets_of, address_of, seed_of_text}
 
 -- what the rows have to unfold
 unfoldable on_texts : ⊤
-unfolding is_utf8 chars before behind octets_of address_of seed_of_text
+unfolding is_utf8 chars before behind octets_of address_of seed_of_text on_addresses
 on_texts = tt
 
 unfoldable on_keys : ⊤

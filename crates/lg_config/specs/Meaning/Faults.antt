@@ -2,7 +2,7 @@
 use Rattle.std.specs.Prelude.{ℕ}
 use Rattle.lg_timing.specs.Meaning.Keys.{config_fault_number}
 use Rattle.lg_config.specs.declared.fault.FileFault.{FileFault}
-use Rattle.lg_config.specs.declared.fault.FileFault.TheVariants.{Bind, Config, Syntax, Key, Value, Pull, Stall}
+use Rattle.lg_config.specs.declared.fault.FileFault.TheVariants.{Bind, Config, Family, Syntax, Key, Value, Pull, Stall}
 use Rattle.lg_config.specs.declared.fault.FileFault.TheVariants.{Status, StatusOpen, StatusNotLoopback, KeyFile, Leave}
 
 abbrev pub fault_number : FileFault → ℕ
@@ -18,3 +18,4 @@ fault_number StatusNotLoopback = 20
 fault_number KeyFile = 21
 fault_number Leave = 27
 fault_number Bind = 28
+fault_number Family = 29

@@ -9,7 +9,7 @@ use Rattle.lg_timing.specs.declared.config.Seed.{Seed}
 use Rattle.lg_config.specs.Meaning.Quoting.{quoted}
 use Rattle.lg_config.specs.Meaning.Ranges.{dice_reason, port_reason}
 use Rattle.lg_config.specs.Meaning.Seeds.{known_seeds}
-use Rattle.lg_config.specs.Meaning.Settings.{address_text, dice_in, name_in, name_text, octets_of_member}
+use Rattle.lg_config.specs.Meaning.Settings.{address_text, dice_in, ip_of_member, name_in, name_text}
 use Rattle.lg_config.specs.Meaning.Settings.{first_seeds, item_count, port_of_member, seed_of_value, seeds_at, text_at}
 
 -- the first text of an array that is no seed; it is empty if each is one
@@ -27,18 +27,18 @@ name_reason members =
 abbrev pub address_reason : Members → List ℕ
 address_reason members =
     codes "address is " ++ (quoted (address_text members)
-    ++ codes ", and has to be A.B.C.D, each from 0 to 255 without leading zeros\n")
+    ++ codes ", and has to be A.B.C.D, each from 0 to 255 without leading zeros, or IPv6\n")
 
 abbrev pub seed_reason : Members → List ℕ
 seed_reason members =
     codes "the seed " ++ (quoted (bad_seed (seeds_at members))
-    ++ codes " has to be NAME@A.B.C.D:PORT, A.B.C.D:PORT or A.B.C.D, A to D without leading zeros\n")
+    ++ codes " has to be NAME@A.B.C.D:PORT, A.B.C.D:PORT or A.B.C.D, A to D without leading zeros, or IPv6\n")
 
 -- the reason of a value that is out of its form: the first of the name, the address, the port, the dice and the seeds
 unfoldable pub value_reason : Members → List ℕ
 value_reason members =
     if is_none (name_in members) then name_reason members
-    else if is_none (octets_of_member members) then address_reason members
+    else if is_none (ip_of_member members) then address_reason members
     else if is_none (port_of_member members) then port_reason members
     else if is_none (dice_in members) then dice_reason members
     else seed_reason members

@@ -21,11 +21,13 @@ use Rattle.lg_config.specs.Meaning.NearestKeys.{nearest_key, nearest_of}
 use Rattle.lg_config.specs.Meaning.Quoting.{quoted}
 use Rattle.lg_config.specs.Meaning.Reasons.{reason_of, IsReason}
 use Rattle.lg_config.specs.Meaning.Settings.{addr_in, dice_in, name_in, settings_of, with_numbers}
+use Rattle.lg_text.specs.Meaning.AddressExamples.{on_addresses}
 use Rattle.lg_config.specs.Meaning.Texts.{before, behind, octets_of, address_of, address_with_port, seed_of_text}
 
 -- what the rows have to unfold
 unfoldable on_texts : ⊤
 unfolding toml_on_literals is_utf8 chars digits before behind octets_of address_of address_with_port seed_of_text
+    on_addresses
 on_texts = tt
 
 unfoldable on_keys : ⊤
@@ -105,14 +107,15 @@ negative-dice = refl
 
 three-numbers :
     said (codes "address = \"1.2.3\"")
-    ≡ Some (codes "address is \"1.2.3\", and has to be A.B.C.D, each from 0 to 255 without leading zeros\n")
+    ≡ Some (codes "address is \"1.2.3\", and has to be A.B.C.D, each from 0 to 255 without leading zeros, or IPv6\n")
 unfolding on_reasons
 three-numbers = refl
 
 -- the second seed is the first that is none
 bad-seed :
     said (codes "seeds = [\"c@1.2.3.4:1\", \"c\", \"d\"]")
-    ≡ Some (codes "the seed \"c\" has to be NAME@A.B.C.D:PORT, A.B.C.D:PORT or A.B.C.D, A to D without leading zeros\n")
+    ≡ Some (codes "the seed \"c\" "
+    ++ codes "has to be NAME@A.B.C.D:PORT, A.B.C.D:PORT or A.B.C.D, A to D without leading zeros, or IPv6\n")
 unfolding on_reasons
 bad-seed = refl
 
@@ -148,7 +151,8 @@ far-key = refl
 
 octal-address :
     said (codes "address = \"010.0.0.1\"")
-    ≡ Some (codes "address is \"010.0.0.1\", and has to be A.B.C.D, each from 0 to 255 without leading zeros\n")
+    ≡ Some (codes "address is \"010.0.0.1\","
+    ++ codes " and has to be A.B.C.D, each from 0 to 255 without leading zeros, or IPv6\n")
 unfolding on_reasons
 octal-address = refl
 
@@ -173,7 +177,7 @@ status-for-number = refl
 
 status-without-port :
     said (codes "status = \"127.0.0.1\"")
-    ≡ Some (codes "status is \"127.0.0.1\", and has to be A.B.C.D:PORT, A to D without leading zeros\n")
+    ≡ Some (codes "status is \"127.0.0.1\", and has to be A.B.C.D:PORT, A to D without leading zeros, or [IPv6]:PORT\n")
 unfolding on_reasons
 status-without-port = refl
 
@@ -185,7 +189,7 @@ open-as-text = refl
 
 no-loopback :
     said (codes "status = \"0.0.0.0:1\"")
-    ≡ Some (codes "status is \"0.0.0.0:1\", and has to be in 127.0.0.0/8 if status_open isn't true\n")
+    ≡ Some (codes "status is \"0.0.0.0:1\", and has to be in 127.0.0.0/8 or ::1 if status_open isn't true\n")
 unfolding on_reasons
 no-loopback = refl
 
@@ -240,13 +244,20 @@ near-leave = refl
 
 bind-port-0 :
     said (codes "bind = \"0.0.0.0:0\"")
-    ≡ Some (codes "bind is \"0.0.0.0:0\", and has to be A.B.C.D or A.B.C.D:PORT, A to D without leading zeros\n")
+    ≡ Some (codes "bind is \"0.0.0.0:0\","
+    ++ codes " and has to be A.B.C.D or A.B.C.D:PORT, A to D without leading zeros, or IPv6\n")
 unfolding on_reasons
 bind-port-0 = refl
 
 bind-as-number : said (codes "bind = 7946") ≡ Some (codes "bind is of type integer, and has to be of type string\n")
 unfolding on_reasons
 bind-as-number = refl
+
+ipv6-by-default-version :
+    said (codes "address = \"::1\"")
+    ≡ Some (codes "wire is 1 by default, and has to be 3 for a member with an IPv6 address\n")
+unfolding on_reasons
+ipv6-by-default-version = refl
 
 -- a letter of two bytes and an escape character
 quoted-bytes : quoted (195 ∷ 169 ∷ 27 ∷ codes "a") ≡ codes "\"???a\""

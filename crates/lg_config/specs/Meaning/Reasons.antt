@@ -16,6 +16,7 @@ use Rattle.lg_config.specs.declared.node_keys.NodeKey.TheVariants.{PullMs, Stall
 use Rattle.lg_config.specs.Meaning.Answer.{document_of}
 use Rattle.lg_config.specs.Meaning.BindReasons.{bind_reason}
 use Rattle.lg_config.specs.Meaning.Bounds.{most_bytes}
+use Rattle.lg_config.specs.Meaning.Families.{family_reason}
 use Rattle.lg_config.specs.Meaning.FormReasons.{key_file_reason, seeds_reason, value_reason}
 use Rattle.lg_config.specs.Meaning.GroupReasons.{group_reason}
 use Rattle.lg_config.specs.Meaning.KeyReasons.{key_reason}
@@ -52,6 +53,7 @@ reason_of fault.StatusNotLoopback members = loopback_reason members
 reason_of fault.KeyFile members = key_file_reason members
 reason_of fault.Leave members = leave_reason members
 reason_of fault.Bind members = bind_reason members
+reason_of fault.Family members = family_reason members
 
 -- the number of the line at a place of a text, from 1 on
 abbrev pub line_at : ℕ → List ℕ → ℕ

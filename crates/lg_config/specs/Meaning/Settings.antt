@@ -4,7 +4,8 @@ use Rattle.std.specs.Prelude.{option_and_then, unwrap_or}
 use Rattle.std.specs.Option.{option_map}
 use Rattle.toml.specs.Data.{Data, Items, no_items, item, Members, get_member, as_str, as_integer, as_array}
 use Rattle.lg_rules.specs.declared.addr.Addr.{Addr}
-use Rattle.lg_rules.specs.declared.addr.Ip.TheVariants.{V4}
+use Rattle.lg_rules.specs.declared.addr.Ip.{Ip}
+use Rattle.lg_text.specs.Meaning.IpReading.{ip_of}
 use Rattle.lg_timing.specs.Meaning.Bounds.{most_seeds}
 use Rattle.lg_timing.specs.Meaning.Config.{defaults}
 use Rattle.lg_timing.specs.Meaning.Keys.{key_name, number_of_key, with_number}
@@ -20,7 +21,7 @@ use Rattle.lg_config.specs.Meaning.Dice.{own_dice}
 use Rattle.lg_config.specs.Meaning.Keys.{file_keys, texts_key}
 use Rattle.lg_config.specs.Meaning.NodeKeys.{node_key_name, node_row_of}
 use Rattle.lg_config.specs.Meaning.Seeds.{known_seeds}
-use Rattle.lg_config.specs.Meaning.Texts.{◌>>=◌, port_among, octets_of, member_name_of, seed_of_text}
+use Rattle.lg_config.specs.Meaning.Texts.{◌>>=◌, port_among, member_name_of, seed_of_text}
 
 -- the text at a key, and the whole number at a key, if there is one
 abbrev pub text_at : List ℕ → Members → Option (List ℕ)
@@ -74,9 +75,9 @@ address_text members = unwrap_or (text_at (codes "address") members) default_add
 unfoldable pub name_in : Members → Option (List ℕ)
 name_in members = member_name_of (name_text members)
 
--- the four numbers of this member's address, and its port
-abbrev pub octets_of_member : Members → Option (List ℕ)
-octets_of_member members = octets_of (address_text members)
+-- this member's IP address, and its port
+abbrev pub ip_of_member : Members → Option Ip
+ip_of_member members = ip_of (address_text members)
 
 abbrev pub port_of_member : Members → Option ℕ
 port_of_member members = port_among (number_at_key (codes "port") default_port members)
@@ -84,9 +85,9 @@ port_of_member members = port_among (number_at_key (codes "port") default_port m
 -- this member's address
 unfoldable pub addr_in : Members → Option Addr
 addr_in members = do
-  octets ← octets_of_member members
+  ip ← ip_of_member members
   port ← port_of_member members
-  Some record { ip = V4 octets; port = port }
+  Some record { ip = ip; port = port }
 
 -- a whole number, if it isn't negative
 abbrev pub unless_negative : ℤ → Option ℕ

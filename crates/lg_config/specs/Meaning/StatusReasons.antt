@@ -10,7 +10,8 @@ use Rattle.lg_config.specs.Meaning.Settings.{text_at}
 abbrev pub no_address_reason : Data → Option (List ℕ) → List ℕ
 no_address_reason value None = type_reason (codes "string") status_key value
 no_address_reason value (Some text) =
-    codes "status is " ++ (quoted text ++ codes ", and has to be A.B.C.D:PORT, A to D without leading zeros\n")
+    codes "status is " ++ (quoted text
+    ++ codes ", and has to be A.B.C.D:PORT, A to D without leading zeros, or [IPv6]:PORT\n")
 
 -- the same, by the value at the key
 abbrev pub status_value_reason : Option Data → List ℕ
@@ -36,4 +37,4 @@ status_addr_text members = unwrap_or (text_at status_key members) []
 abbrev pub loopback_reason : Members → List ℕ
 loopback_reason members =
     codes "status is " ++ (quoted (status_addr_text members)
-    ++ codes ", and has to be in 127.0.0.0/8 if status_open isn't true\n")
+    ++ codes ", and has to be in 127.0.0.0/8 or ::1 if status_open isn't true\n")

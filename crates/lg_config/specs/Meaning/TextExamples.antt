@@ -2,11 +2,13 @@
 use Rattle.std.specs.Prelude.{⊤, ◌≡◌, [], ◌∷◌, Some, None, codes, refl}
 use Rattle.std.specs.Str.{chars, is_utf8}
 use Rattle.lg_rules.specs.declared.addr.Ip.TheVariants.{V4}
+use Rattle.lg_text.specs.Meaning.AddressExamples.{on_addresses}
 use Rattle.lg_config.specs.Meaning.Texts.{before, behind, octets_of, address_of, address_with_port, seed_of_text}
 
 -- what the rows have to unfold
 unfoldable on_texts : ⊤
 unfolding is_utf8 chars before behind octets_of address_of address_with_port seed_of_text
+    on_addresses
 on_texts = tt
 
 four-numbers : octets_of (codes "0.10.100.255") ≡ Some (0 ∷ 10 ∷ 100 ∷ 255 ∷ [])

@@ -1,10 +1,11 @@
 -- What a text of a configuration file says: an address with its port, or a seed. It is None if the text is out of its
--- form. What name, what four numbers of an address and what port a text spells is said by `member_name_of`, `octets_of`
--- and `port_of` of `lg_text`.
-use Rattle.std.specs.Prelude.{ℕ, List, Option, Some, None}
+-- form. What name, what address of IPv4 or of IPv6 and what port a text spells is said by `member_name_of`,
+-- `octets_of`, `ipv6_of` and `port_of` of `lg_text`.
+use Rattle.std.specs.Prelude.{ℕ, ◌==◌, List, [], ◌∷◌, Option, Some, None, if◌then◌else◌}
 use Rattle.lg_rules.specs.declared.addr.Addr.{Addr}
-use Rattle.lg_rules.specs.declared.addr.Ip.TheVariants.{V4}
+use Rattle.lg_rules.specs.declared.addr.Ip.TheVariants.{V4, V6}
 use Rattle.lg_text.specs.Meaning.Cutting.{colon}
+use Rattle.lg_text.specs.Meaning.IpReading.{ipv6_of}
 use Rattle.lg_text.specs.Meaning.Numbers.{port_of}
 use Rattle.lg_config.specs.declared.seeds.SeedPlace.{SeedPlace}
 use Rattle.lg_config.specs.Meaning.Bounds.{default_port}
@@ -18,25 +19,73 @@ unfoldable pub use Rattle.lg_text.specs.Meaning.Octets.{octets_of}
 abbrev pub at_sign : ℕ
 at_sign = 64
 
--- an address and a port, cut at the first colon
-unfoldable pub address_of : List ℕ → Option Addr
-address_of text = do
+-- the bytes `[` and `]`, between which an IPv6 address stands before a port
+abbrev pub bracket : ℕ
+bracket = 91
+
+abbrev pub end_bracket : ℕ
+end_bracket = 93
+
+-- what stands behind a byte with which a text begins
+abbrev pub rest_behind : ℕ → List ℕ → Option (List ℕ)
+rest_behind byte [] = None
+rest_behind byte (first ∷ rest) = if first == byte then Some rest else None
+
+-- an IPv4 address and a port, cut at the first colon
+abbrev pub ipv4_place : List ℕ → Option Addr
+ipv4_place text = do
   octets ← octets_of (before colon text)
   rest ← behind colon text
   port ← port_of rest
   Some record { ip = V4 octets; port = port }
+
+-- an IPv6 address in brackets, and a port behind a colon; the first `]` ends the address
+abbrev pub ipv6_place : List ℕ → Option Addr
+ipv6_place text = do
+  inner ← rest_behind bracket text
+  octets ← ipv6_of (before end_bracket inner)
+  outer ← behind end_bracket inner
+  rest ← rest_behind colon outer
+  port ← port_of rest
+  Some record { ip = V6 octets; port = port }
+
+-- an IPv6 address without brackets, with this port
+abbrev pub ipv6_with_port : ℕ → List ℕ → Option Addr
+ipv6_with_port port text = do
+  octets ← ipv6_of text
+  Some record { ip = V6 octets; port = port }
+
+-- an address and a port: of IPv4, or else of IPv6
+abbrev pub place_unless_ipv4 : Option Addr → List ℕ → Option Addr
+place_unless_ipv4 None text = ipv6_place text
+place_unless_ipv4 (Some addr) text = Some addr
+
+unfoldable pub address_of : List ℕ → Option Addr
+address_of text = place_unless_ipv4 (ipv4_place text) text
 
 -- the port behind an address, or this one if none stands there
 abbrev pub port_or : ℕ → Option (List ℕ) → Option ℕ
 port_or usual None = Some usual
 port_or usual (Some text) = port_of text
 
--- an address with a port behind its first colon, or with this port if it has no colon
-unfoldable pub address_with_port : ℕ → List ℕ → Option Addr
-address_with_port usual text = do
+-- an IPv4 address with a port behind its first colon, or with this port if it has no colon
+abbrev pub ipv4_with_port : ℕ → List ℕ → Option Addr
+ipv4_with_port usual text = do
   octets ← octets_of (before colon text)
   port ← port_or usual (behind colon text)
   Some record { ip = V4 octets; port = port }
+
+-- an address with a port, or alone, and then with this port: of IPv4, or else of IPv6, in brackets before a port
+abbrev pub ipv6_unless_place : Option Addr → ℕ → List ℕ → Option Addr
+ipv6_unless_place None usual text = ipv6_with_port usual text
+ipv6_unless_place (Some addr) usual text = Some addr
+
+abbrev pub ipv6_unless_ipv4 : Option Addr → ℕ → List ℕ → Option Addr
+ipv6_unless_ipv4 None usual text = ipv6_unless_place (ipv6_place text) usual text
+ipv6_unless_ipv4 (Some addr) usual text = Some addr
+
+unfoldable pub address_with_port : ℕ → List ℕ → Option Addr
+address_with_port usual text = ipv6_unless_ipv4 (ipv4_with_port usual text) usual text
 
 -- a seed with a name: an address with its port stands behind it
 abbrev pub named_seed : List ℕ → List ℕ → Option SeedPlace

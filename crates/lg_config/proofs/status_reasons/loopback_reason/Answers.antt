@@ -7,7 +7,7 @@ use Rattle.lg_config.proofs.status_reasons.loopback_reason.Goals as goal
 
 -- the reason with this quote
 abbrev with_quote : List ℕ → List ℕ
-with_quote quote = codes "status is " ++ (quote ++ codes ", and has to be in 127.0.0.0/8 if status_open isn't true\n")
+with_quote quote = codes "status is " ++ (quote ++ codes ", and has to be in 127.0.0.0/8 or ::1 if status_open isn't true\n")
 
 pub returns : goal.returns
 returns c =
