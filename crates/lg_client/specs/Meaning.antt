@@ -7,6 +7,8 @@ pub mod Examples
 pub mod Faults
 pub mod Fields
 pub mod Health
+pub mod Leaving
+pub mod LeavingExamples
 pub mod Lines
 pub mod Members
 pub mod Questions

@@ -1,7 +1,7 @@
 //! Asks a node again if it is busy.
 //!
 //! Defined in: `specs/Meaning/Waiting.antt`.
-//! Tested in: `lg_client_tests/src/waiting.rt`.
+//! Tested in: `lg_client_tests/src/waiting.rt`, `lg_client_tests/src/leaving.rt`.
 ghost use Rattle.std.specs.Prelude.{◌≡◌, ◌<◌, true};
 ghost use Rattle.lg_client.specs.Meaning.Waiting.{AsksAgain, AsksOnce, AsksTwice, closed_with, delay_of, told_of};
 ghost use Rattle.lg_client.specs.Support.Receiving.{IsFetched};
@@ -9,6 +9,7 @@ ghost use Rattle.lg_client.specs.Support.Receiving.{IsFetched};
 use crate::fault::AskFault;
 use crate::receiving::Answer;
 use crate::unheard::{Delay, Unheard};
+use lg_rules::Name;
 
 /// How often in a row a connection may be closed before a byte came: 60 (this project's choice).
 const MOST_CLOSED: u64 = 60;
@@ -20,7 +21,7 @@ const MOST_PUT_OFF: u64 = u64::MAX;
 pub(crate) trait Asker {
     ghost use Rattle.std.specs.Prelude.{◌≡◌, ◌∷◌, ◌++◌, [], Bool, List, true};
     ghost use Rattle.lg_client.specs.Meaning.Waiting.{AskEvent};
-    ghost use Rattle.lg_client.specs.Meaning.Waiting.AskEvent.{Asked, Waited};
+    ghost use Rattle.lg_client.specs.Meaning.Waiting.AskEvent.{Asked, AskedToLeave, Connected, Paused, Waited};
     ghost use Rattle.lg_client.specs.Support.Receiving.{IsHeard};
 
     // Whether contracts can see what it did.
@@ -37,6 +38,19 @@ pub(crate) trait Asker {
     /// Waits so many seconds.
     fn wait(&mut self, seconds: u64)
         ensures told { tells ≡ true → log self.new ≡ log self.old ++ Waited seconds ∷ [] };
+
+    /// Asks the node to leave by this name: an answer with one of these status codes, or why there is none.
+    fn ask_to_leave(&mut self, name: &Name, codes: &[u16]) -> Result<Answer, Unheard>
+        ensures heard { IsHeard codes.now result }
+        ensures told { tells ≡ true → log self.new ≡ log self.old ++ AskedToLeave name.now result ∷ [] };
+
+    /// Connects to the node, and closes the connection. Whether that could be done.
+    fn connects(&mut self) -> bool
+        ensures told { tells ≡ true → log self.new ≡ log self.old ++ Connected result ∷ [] };
+
+    /// Pauses so many milliseconds.
+    fn pause(&mut self, milliseconds: u64)
+        ensures told { tells ≡ true → log self.new ≡ log self.old ++ Paused milliseconds ∷ [] };
 }
 
 /// Why a question is to be asked later, if its outcome says so.
@@ -50,7 +64,7 @@ fn delay_of(outcome: &Result<Answer, Unheard>) -> Option<Delay>
 }
 
 /// What is given for an outcome if the question isn't asked again.
-fn told(outcome: Result<Answer, Unheard>) -> Result<Answer, AskFault>
+pub(crate) fn told(outcome: Result<Answer, Unheard>) -> Result<Answer, AskFault>
     ensures { result ≡ told_of outcome }
 {
     match outcome {

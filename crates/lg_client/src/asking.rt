@@ -1,7 +1,7 @@
 //! Asks the server at an address: sends a request on a connection of its own, and receives the answer.
 //!
 //! Defined in: `specs/Meaning/Questions.antt`, `specs/Meaning/Answers.antt`, `specs/Meaning/Waiting.antt`.
-//! Tested in: `lg_client_tests/src/asking.rt`, `lg_client_tests/src/waiting.rt`.
+//! Tested in: `lg_client_tests/src/asking.rt`, `lg_client_tests/src/waiting.rt`, `lg_client_tests/src/leaving.rt`.
 ghost use Rattle.std.specs.Prelude.{◌≡◌, ◌≤◌, drop, false, length};
 ghost use Rattle.lg_client.specs.Meaning.Questions.{is_code_of};
 ghost use Rattle.lg_client.specs.Meaning.Answers.{IsHttpAnswer};
@@ -10,14 +10,15 @@ ghost use Rattle.lg_client.specs.Support.Receiving.{IsHeard, IsReceived, IsTurne
 use crate::asker::Asker;
 use crate::later::delay_in;
 use crate::receiving::{Answer, receive};
-use crate::resource::request_text;
+use crate::resource::{leave_text, request_text};
 use crate::unheard::{Delay, Unheard};
+use lg_rules::Name;
 use lg_text::write_whole;
 use std::alloc::Global;
 use std::io::{Read, Write};
 use std::net::{Net, OpenStream, SocketAddr, SocketAddrV4, TcpStream};
 use std::time::Duration;
-use std::{rt, thread};
+use std::{io, rt, thread};
 
 /// How long a server may take until it takes the connection, in milliseconds (this project's choice).
 const CONNECT_MS: u64 = 2_000;
@@ -51,22 +52,26 @@ fn is_code_of(allowed: &[u16], code: u16) -> bool
 fn ask_over<S: Read + Write>(
     alloc: Global,
     stream: &mut S,
-    request: &str,
+    request: &[u8],
 ) -> Result<Answer, Unheard>
     ensures { IsReceived result }
 {
-    let _ = write_whole(stream, request.as_bytes());
+    let _ = write_whole(stream, request);
     receive(alloc, stream)
+}
+
+/// Connects to a node.
+fn connect<M: Net>(rt: &M, node: &Node<'_>) -> io::Result<M::Stream> {
+    let address = SocketAddr::V4(node.address);
+    TcpStream::connect_timeout(rt, &address, Duration::from_millis(CONNECT_MS))
 }
 
 /// Connects to a node, sends a request, and receives the answer.
 #[tactic(auto, using(crate::proofs::AnswerLaws::nothing_cut))]
-fn ask<M: Net>(rt: &M, alloc: Global, node: &Node<'_>, request: &str) -> Result<Answer, Unheard>
+fn ask<M: Net>(rt: &M, alloc: Global, node: &Node<'_>, request: &[u8]) -> Result<Answer, Unheard>
     ensures { IsReceived result }
 {
-    let address = SocketAddr::V4(node.address);
-    let wait = Duration::from_millis(CONNECT_MS);
-    let Ok(mut stream) = TcpStream::connect_timeout(rt, &address, wait) else {
+    let Ok(mut stream) = connect(rt, node) else {
         return Err(Unheard::Lacking);
     };
     let patience = Duration::from_millis(node.patience_ms);
@@ -123,7 +128,23 @@ fn fetch<M: Net>(
     ensures { IsHeard codes.now result }
 {
     match request_text(alloc, target, node.at) {
-        Ok(request) => allowed(ask(rt, alloc, node, request.as_str()), codes),
+        Ok(request) => allowed(ask(rt, alloc, node, request.as_str().as_bytes()), codes),
+        Err(_) => Err(Unheard::NoMemory),
+    }
+}
+
+/// The same if it is asked to leave by this name.
+fn fetch_leave<M: Net>(
+    rt: &M,
+    alloc: Global,
+    node: &Node<'_>,
+    name: &Name,
+    codes: &[u16],
+) -> Result<Answer, Unheard>
+    ensures { IsHeard codes.now result }
+{
+    match leave_text(alloc, name, node.at) {
+        Ok(request) => allowed(ask(rt, alloc, node, &request), codes),
         Err(_) => Err(Unheard::NoMemory),
     }
 }
@@ -149,5 +170,17 @@ impl<'a, M: Net + rt::Clock> Asker for NetAsker<'a, M> {
 
     fn wait(&mut self, seconds: u64) {
         thread::sleep(self.rt, Duration::from_secs(seconds));
+    }
+
+    fn ask_to_leave(&mut self, name: &Name, codes: &[u16]) -> Result<Answer, Unheard> {
+        fetch_leave(self.rt, self.alloc, &self.node, name, codes)
+    }
+
+    fn connects(&mut self) -> bool {
+        connect(self.rt, &self.node).is_ok()
+    }
+
+    fn pause(&mut self, milliseconds: u64) {
+        thread::sleep(self.rt, Duration::from_millis(milliseconds));
     }
 }

@@ -1,10 +1,12 @@
 //! What a node is asked, and the bytes of the request.
 //!
 //! Defined in: `specs/Meaning/Questions.antt`.
-//! Tested in: `lg_client_tests/src/asking.rt`.
+//! Tested in: `lg_client_tests/src/asking.rt`, `lg_client_tests/src/leaving.rt`.
 ghost use Rattle.std.specs.Prelude.{◌≡◌, IfOk, string_bytes};
-ghost use Rattle.lg_client.specs.Meaning.Questions.{changes_target, codes_of, request_text, target_of};
+ghost use Rattle.lg_client.specs.Meaning.Questions.{changes_target, codes_of, leave_text, request_text, target_of};
 
+use crate::lines::put;
+use lg_rules::Name;
 use std::alloc::{AllocError, Global};
 
 /// What a node is asked once.
@@ -62,4 +64,19 @@ pub(crate) fn request_text(alloc: Global, target: &str, at: &str) -> Result<Stri
     ensures { IfOk result (λ request. string_bytes request ≡ request_text target.now at.now) }
 {
     format!(in alloc; "GET {target} HTTP/1.1\r\nhost: {at}\r\nconnection: close\r\n\r\n")
+}
+
+/// The bytes of the request that asks the node with this name to leave, to the server at an address (RFC 9112,
+/// sections 3, 6.3 and 9.6).
+#[tactic(auto, unfolding(crate::specs::Meaning::Questions::leave_text))]
+pub(crate) fn leave_text(alloc: Global, name: &Name, at: &str) -> Result<Vec<u8>, AllocError>
+    ensures { IfOk result (λ request. request.items ≡ leave_text name.now at.now) }
+{
+    let mut request = Vec::new(alloc);
+    put(b"POST /v1/leave HTTP/1.1\r\nhost: ", &mut request)?;
+    put(at.as_bytes(), &mut request)?;
+    put(b"\r\nlg-leave: ", &mut request)?;
+    put(name.as_bytes(), &mut request)?;
+    put(b"\r\nconnection: close\r\n\r\n", &mut request)?;
+    Ok(request)
 }

@@ -62,7 +62,7 @@ fn target_of(command: Command) -> &'static str {
     match command {
         Command::Members => "/v1/members",
         Command::Status => "/v1/health",
-        Command::Watch => "",
+        Command::Watch | Command::Leave(_) => "",
     }
 }
 

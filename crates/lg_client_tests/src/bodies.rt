@@ -98,3 +98,6 @@ pub(crate) const FORGOTTEN: &str =
     \"status\":\"forgotten\",\"incarnation\":null,\"address\":null,\"port\":null,\"accuser\":null}]}";
 
 pub(crate) const FORGOTTEN_TEXT: &str = "90000 forgotten c\n";
+
+/// The node `b` says that it leaves.
+pub(crate) const LEAVING: &str = "{\"leaving\":\"b\"}";

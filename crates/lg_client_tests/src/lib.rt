@@ -12,6 +12,8 @@ mod damaged;
 #[cfg(test)]
 mod edits;
 #[cfg(test)]
+mod leaving;
+#[cfg(test)]
 mod outputs;
 #[cfg(test)]
 mod playing;

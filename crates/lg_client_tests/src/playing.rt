@@ -2,7 +2,7 @@
 
 use crate::outputs::{Limit, Room};
 use crate::server::{Place, Reply, serve};
-use lg_client::{NodeQuestion, Resource, tell_answer, watch_changes};
+use lg_client::{NodeQuestion, Resource, leave_node, tell_answer, watch_changes};
 use std::alloc::{AllocError, Global};
 use std::io::ErrorKind;
 use std::net::{Ipv4Addr, Net, SocketAddr, TcpListener, TcpStream};
@@ -21,10 +21,18 @@ pub(crate) enum Command {
     Members,
     Status,
     Watch,
+    /// To leave, by this name, or by the one of its health if the name is empty. It writes nothing.
+    Leave(&'static str),
 }
 
 /// All commands.
-pub(crate) const COMMANDS: [Command; 3] = [Command::Members, Command::Status, Command::Watch];
+pub(crate) const COMMANDS: [Command; 5] = [
+    Command::Members,
+    Command::Status,
+    Command::Watch,
+    Command::Leave(""),
+    Command::Leave("b"),
+];
 
 /// How a command asks, and how its outputs fail.
 #[derive(Clone, Copy, Debug)]
@@ -79,6 +87,7 @@ impl Asking {
                 tell_answer(rt, alloc, &question, out, told)
             }
             Command::Watch => watch_changes(rt, alloc, at, json, out, told),
+            Command::Leave(name) => leave_node(rt, alloc, at, name, told),
         };
         Outcome {
             status,
@@ -124,17 +133,18 @@ fn has_begun<R: rt::Clock>(rt: &R, place: &Place<'_>) -> bool {
     false
 }
 
-/// Asks the server, and then tells it that the client has ended. A server that waits for another client gets one, so
-/// that it can see this.
-fn ask_and_end<R: Net<Stream = TcpStream> + rt::Clock>(
+/// Asks the server through `net`, and then tells it that the client has ended. A server that waits for another client
+/// gets one, so that it can see this.
+fn ask_and_end<R: Net<Stream = TcpStream> + rt::Clock, M: Net + rt::Clock>(
     rt: &R,
+    net: &M,
     alloc: Global,
     place: &Place<'_>,
     at: &str,
     asking: &Asking,
 ) -> Option<Outcome> {
     let outcome = if has_begun(rt, place) {
-        Some(asking.run(rt, alloc, at))
+        Some(asking.run(net, alloc, at))
     } else {
         None
     };
@@ -145,9 +155,10 @@ fn ask_and_end<R: Net<Stream = TcpStream> + rt::Clock>(
     outcome
 }
 
-/// Runs a server, and a command that asks it.
-fn both<R>(
+/// Runs a server, and a command that asks it through `net`.
+fn both<R, M>(
     rt: &R,
+    net: &M,
     alloc: Global,
     place: &Place<'_>,
     listener: TcpListener,
@@ -156,11 +167,12 @@ fn both<R>(
 ) -> (io::Result<Room>, Option<Outcome>)
 where
     R: Net<Stream = TcpStream> + rt::Clock + Threads + Sync,
+    M: Net + rt::Clock + Sync,
 {
     join(
         rt,
         move || -> io::Result<Room> { serve(rt, place, listener) },
-        move || -> Option<Outcome> { ask_and_end(rt, alloc, place, at, asking) },
+        move || -> Option<Outcome> { ask_and_end(rt, net, alloc, place, at, asking) },
     )
 }
 
@@ -188,6 +200,21 @@ pub(crate) fn played<R>(
 where
     R: Net<Listener = TcpListener, Stream = TcpStream> + rt::Clock + Threads + Sync,
 {
+    played_through(rt, rt, alloc, replies, asking)
+}
+
+/// The same if the command connects and sleeps through `net`.
+pub(crate) fn played_through<R, M>(
+    rt: &R,
+    net: &M,
+    alloc: Global,
+    replies: &[Reply<'_>],
+    asking: &Asking,
+) -> io::Result<Seen>
+where
+    R: Net<Listener = TcpListener, Stream = TcpStream> + rt::Clock + Threads + Sync,
+    M: Net + rt::Clock + Sync,
+{
     let listener = listen(rt)?;
     let address = listener.local_addr()?;
     let at = format!(in alloc; "{address}")?;
@@ -201,7 +228,7 @@ where
         is_over: &is_over,
         is_closed: &is_closed,
     };
-    let (requests, outcome) = both(rt, alloc, &place, listener, at.as_str(), asking);
+    let (requests, outcome) = both(rt, net, alloc, &place, listener, at.as_str(), asking);
     match outcome {
         Some(outcome) => Ok(Seen {
             at,

@@ -2,7 +2,7 @@
 //! connection before a byte.
 
 use crate::answers::{FINE, answer};
-use crate::bodies::{CHANGE, CHANGE_TEXT, HEALTH, HEALTH_TEXT, SUSPECT, SUSPECT_TEXT};
+use crate::bodies::{CHANGE, CHANGE_TEXT, HEALTH, HEALTH_TEXT, LEAVING, SUSPECT, SUSPECT_TEXT};
 use crate::playing::{Asking, Command, Seen, played};
 use crate::server::Reply;
 use std::alloc::Global;
@@ -201,6 +201,7 @@ fn fine(command: Command) -> (&'static str, &'static str) {
         Command::Members => (SUSPECT, SUSPECT_TEXT),
         Command::Status => (HEALTH, HEALTH_TEXT),
         Command::Watch => (CHANGE, CHANGE_TEXT),
+        Command::Leave(_) => (LEAVING, ""),
     }
 }
 
@@ -264,6 +265,7 @@ fn targets_of(alloc: Global, row: &Row) -> io::Result<Vec<&'static str>> {
         Command::Members => "/v1/members",
         Command::Status => "/v1/health",
         Command::Watch => "/v1/changes?after=0&wait_ms=30000",
+        Command::Leave(_) => "/v1/leave",
     };
     let mut targets = Vec::new(alloc);
     for turn in turns {

@@ -29,3 +29,14 @@ is_code_of allowed code = list_any (λ c. c == code) allowed
 unfoldable pub request_text : List ℕ → List ℕ → List ℕ
 request_text target at =
     codes "GET " ++ (target ++ (codes " HTTP/1.1\r\nhost: " ++ (at ++ codes "\r\nconnection: close\r\n\r\n")))
+
+-- The bytes of the request that asks the node with this name to leave, to the server at an address. It has no body, and
+-- so no field that says how long one is (RFC 9112, section 6.3).
+unfoldable pub leave_text : List ℕ → List ℕ → List ℕ
+leave_text name at =
+    codes "POST /v1/leave HTTP/1.1\r\nhost: " ++ at ++ codes "\r\nlg-leave: " ++ name
+    ++ codes "\r\nconnection: close\r\n\r\n"
+
+-- the status codes that its answer may have
+abbrev pub leave_codes : List ℕ
+leave_codes = 200 ∷ []

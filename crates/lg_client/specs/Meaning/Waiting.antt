@@ -62,10 +62,14 @@ abbrev pub seconds_of : Delay → ℕ
 seconds_of (Told said) = max least_wait (min most_wait said)
 seconds_of Closed = least_wait
 
--- A question and its outcome, or a wait of so many seconds.
+-- A question and its outcome, or a wait of so many seconds. Or a node was asked to leave by this name, with this
+-- outcome; or it was tried to connect to it, and whether that could be done; or a pause of so many milliseconds.
 pub data AskEvent : Type 0 where
   Asked : Result Answer Unheard → AskEvent
   Waited : ℕ → AskEvent
+  AskedToLeave : List ℕ → Result Answer Unheard → AskEvent
+  Connected : Bool → AskEvent
+  Paused : ℕ → AskEvent
 
 -- the fault that is told if a question has this outcome and isn't asked again
 abbrev pub ask_fault_of : Unheard → AskFault

@@ -2,8 +2,10 @@
 use Rattle.std.specs.Prelude.{◌≡◌, refl}
 use Rattle.lg_client.specs.declared.heard.TheConstants.{MAX_ANSWER, MAX_FIELDS}
 use Rattle.lg_client.specs.declared.asker.TheConstants.{MOST_CLOSED, MOST_PUT_OFF}
+use Rattle.lg_client.specs.declared.leaving.TheConstants.{MOST_CONNECTIONS, PAUSE_MS}
 use Rattle.lg_client.specs.declared.unheard.TheConstants.{LEAST_WAIT, MOST_WAIT}
 use Rattle.lg_client.specs.Meaning.Answers.{most_answer, most_fields}
+use Rattle.lg_client.specs.Meaning.Leaving.{most_connections, pause_ms}
 use Rattle.lg_client.specs.Meaning.Waiting.{least_wait, most_closed, most_put_off, most_wait}
 
 most_answer-is : MAX_ANSWER ≡ most_answer
@@ -23,3 +25,9 @@ most_closed-is = refl
 
 most_put_off-is : MOST_PUT_OFF ≡ most_put_off
 most_put_off-is = refl
+
+pause_ms-is : PAUSE_MS ≡ pause_ms
+pause_ms-is = refl
+
+most_connections-is : MOST_CONNECTIONS ≡ most_connections
+most_connections-is = refl
