@@ -1,7 +1,7 @@
 //! Memory that is refused once. This test passes with memory, and with any one allocation refused.
 
 use crate::server::{Place, serve};
-use lg_client::{NodeQuestion, Resource, tell_answer, watch_changes};
+use lg_client::{NodeQuestion, Resource, leave_node, tell_answer, watch_changes};
 use lg_testing::Room;
 use std::alloc::Global;
 use std::io::ErrorKind;
@@ -15,10 +15,12 @@ enum Command {
     Members,
     Status,
     Watch,
+    /// To leave, by the name `b`.
+    Leave,
 }
 
 /// What is asked, the answer, the text that is written of it, and the status and the line at the end. Nobody answers
-/// `watch` a second time.
+/// `watch` a second time. Nobody listens any more behind the answer, so a node that leaves has ended.
 type Row = (Command, &'static str, &'static str, u8, &'static str);
 
 const ROWS: &[Row] = &[
@@ -48,6 +50,13 @@ const ROWS: &[Row] = &[
         "5120 record a alive 1 127.0.0.1:7101\n",
         7,
         "lg: no answer\n",
+    ),
+    (
+        Command::Leave,
+        "HTTP/1.1 200 OK\r\ncontent-length: 15\r\nconnection: close\r\n\r\n{\"leaving\":\"b\"}",
+        "",
+        0,
+        "",
     ),
 ];
 
@@ -79,6 +88,7 @@ fn ask<R: Net + rt::Clock>(rt: &R, alloc: Global, command: Command, at: &str) ->
     let question = NodeQuestion { at, resource, json };
     let status = match command {
         Command::Watch => watch_changes(rt, alloc, at, json, &mut writer, &mut faults),
+        Command::Leave => leave_node(rt, alloc, at, "b", &mut faults),
         _ => tell_answer(rt, alloc, &question, &mut writer, &mut faults),
     };
     Outcome {
