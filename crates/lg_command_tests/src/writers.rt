@@ -1,7 +1,7 @@
 //! Writers that fail.
 use crate::plays::{OTHERS, Play, READING};
 use crate::streams::Streams;
-use lg_commands::{answer_named, order_lists};
+use lg_commands::{answer_named, order_lists, write_init};
 use lg_testing::{FaultRow, ROOM};
 use std::process::Abort;
 
@@ -42,6 +42,19 @@ fn fails_where_a_writer_is_full(rt: HostRuntime) {
         let status = play.command.run(rt.alloc(), &mut streams);
         let met = status == 1 && streams.writer.len == ROOM && streams.faults.has(FULL);
         assert!(rt; met, "{play:?}: {status}");
+    }
+}
+
+/// `init`, whose text has more bytes than the writer has room for: a write that fails, and a writer that is full.
+/// What was written before stays.
+#[test]
+fn writes_a_beginning_of_a_file(rt: HostRuntime) {
+    for (fails_at, written, told) in [(1, 0, BROKEN), (20, 19, BROKEN), (0, ROOM, FULL)] {
+        let mut streams = Streams::over(b"");
+        streams.writer.fails_at = fails_at;
+        let status = write_init(&mut streams.writer, &mut streams.faults);
+        let met = status == 1 && streams.writer.len == written && streams.faults.has(told);
+        assert!(rt; met, "write {fails_at} fails: {status}");
     }
 }
 

@@ -3,6 +3,8 @@ pub mod Answering
 pub mod Choosing
 pub mod Examples
 pub mod Faults
+pub mod Init
+pub mod InitExamples
 pub mod Running
 pub mod Spelled
 pub mod Timeouts

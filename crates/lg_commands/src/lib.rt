@@ -1,14 +1,15 @@
-//! The commands `answer`, `order`, `timeouts` and `sim`, over any reader and writers: what they write, and their
-//! statuses. None of them uses a clock, a socket or a file.
+//! The commands `answer`, `order`, `timeouts`, `sim` and `init`, over any reader and writers: what they write, and
+//! their statuses. None of them uses a clock, a socket or a file.
 //!
 //! Where to read on:
-//! - what `answer`, `order` and `timeouts` write: `specs/Meaning/Answering.antt`, `Choosing.antt` and `Timeouts.antt`;
-//!   what `sim` writes: `lg_sim`;
+//! - what `answer`, `order`, `timeouts` and `init` write: `specs/Meaning/Answering.antt`, `Choosing.antt`,
+//!   `Timeouts.antt` and `Init.antt`; what `sim` writes: `lg_sim`;
 //! - how a run ends, and its status: `specs/Meaning/Running.antt`;
 //! - which command a command line asks for: `lg_command_line`.
 #![tactic(auto)]
 
 mod answer;
+mod init;
 mod line;
 mod order;
 mod run;
@@ -18,5 +19,7 @@ mod timeouts;
 pub use line::LineFault;
 pub use order::{BadList, OrderFault};
 pub use run::{answer_run, order_run, timeouts_run};
-pub use status::{BAD_INPUT, FAILED, USAGE, answer_named, order_lists, simulate, timeouts_of};
+pub use status::{
+    BAD_INPUT, FAILED, USAGE, answer_named, order_lists, simulate, timeouts_of, write_init,
+};
 pub use timeouts::Numbers;

@@ -1,22 +1,24 @@
 //! Runs a command, reports why it failed, and gives the exit status.
 //!
 //! Defined in: `specs/Meaning/Running.antt`, `specs/Meaning/Choosing.antt`, `lg_rules/specs/Meaning/Name.antt`.
-//! Tested in: `cases/command_line.case`, `cases/order.case`, `cases/timeouts_command.case`.
+//! Tested in: `cases/command_line.case`, `cases/order.case`, `cases/timeouts_command.case`, `cases/init.case`.
 ghost use Rattle.std.specs.Prelude.{◌≡◌, ◌≢◌, ◌⊎◌, Err, IfOk, true};
 ghost use Rattle.std.specs.Result.{is_err};
 ghost use Rattle.lg_rules.specs.Meaning.Name.{name_of_text};
 ghost use Rattle.lg_text.specs.Meaning.Reporting.{Reports};
-ghost use Rattle.lg_text.specs.Meaning.Running.{ReadsWhole};
+ghost use Rattle.lg_text.specs.Meaning.Running.{AppendsFront, ReadsWhole};
 ghost use Rattle.lg_commands.specs.Meaning.Choosing.{order_text};
 ghost use Rattle.lg_commands.specs.Meaning.Faults.{bad_list_text};
-ghost use Rattle.lg_commands.specs.Meaning.Running.{FailsBy, RunsAnswer, RunsOrder, RunsSim, RunsTimeouts};
+ghost use Rattle.lg_commands.specs.Meaning.Init.{init_text};
+ghost use Rattle.lg_commands.specs.Meaning.Running.{FailsBy, RunsAnswer, RunsInit, RunsOrder, RunsSim, RunsTimeouts};
 ghost use Rattle.lg_commands.specs.Meaning.Timeouts.{are_good};
 
+use crate::init::init_text;
 use crate::order::{BadList, OrderFault};
 use crate::run::{answer_run, order_run, timeouts_run};
 use crate::timeouts::Numbers;
 use lg_rules::Name;
-use lg_text::{FaultStream, report};
+use lg_text::{FaultStream, report, write_text};
 use std::alloc::Global;
 use std::io::{Read, Write};
 
@@ -148,6 +150,32 @@ pub fn timeouts_of<W: Write, F: FaultStream>(
     ensures run { result ≢ USAGE }
 {
     match timeouts_run(alloc, writer, numbers) {
+        Ok(()) => 0,
+        Err(fault) => {
+            report(faults, fault.text());
+            FAILED
+        }
+    }
+}
+
+/// Runs `init`: writes a configuration of a node to begin with, and nothing else. Gives the status, which is 0 if all
+/// was written.
+///
+/// The text is TOML, with a comment on each key (this project's choice). A file that has it is a configuration of the
+/// member `a` at 127.0.0.1:7946, which writes version 3 and has a status server. No memory is allocated.
+///
+/// A write that fails is reported, and the status is [`FAILED`]. A beginning of the text is written then: none of it, a
+/// part or all. A line that `faults` doesn't take is dropped.
+pub fn write_init<W: Write, F: FaultStream>(writer: &mut W, faults: &mut F) -> u8
+    ensures written { result ≢ FAILED → RunsInit (W.contents writer.old) (W.contents writer.new)
+        (F.reported faults.old) (F.reported faults.new) result }
+    ensures failed { result ≡ FAILED
+        → FailsBy (F.reported faults.old) (F.reported faults.new) writer.old writer.new }
+    ensures partly { result ≡ FAILED
+        → AppendsFront (W.contents writer.old) (W.contents writer.new) init_text }
+    ensures run { result ≢ USAGE }
+{
+    match write_text(writer, init_text().as_bytes()) {
         Ok(()) => 0,
         Err(fault) => {
             report(faults, fault.text());

@@ -11,6 +11,7 @@ use Rattle.lg_text.specs.declared.fault.RunFault.TheVariants.{Memory, Read, Writ
 use Rattle.lg_sim.specs.Meaning.Text.{script_end, script_text}
 use Rattle.lg_commands.specs.Meaning.Answering.{answer_end, answer_text}
 use Rattle.lg_commands.specs.Meaning.Faults.{bad_list_text}
+use Rattle.lg_commands.specs.Meaning.Init.{init_text}
 use Rattle.lg_commands.specs.Meaning.Timeouts.{timeouts_text}
 use Rattle.lg_commands.specs.declared.order.BadList.{BadList}
 use Rattle.lg_commands.specs.declared.order.OrderFault.{OrderFault}
@@ -53,6 +54,12 @@ pub record RunsTimeouts (held holds : Option (List ℕ)) (reported reports : Rep
   pub is : status ≡ 0
   pub silent : reports ≡ reported
   pub written : Appends held holds (timeouts_text numbers)
+
+-- The file of `init` is written, nothing is reported, and the status is 0.
+pub record RunsInit (held holds : Option (List ℕ)) (reported reports : Reported) (status : ℕ) : Type 0 where
+  pub is : status ≡ 0
+  pub silent : reports ≡ reported
+  pub written : Appends held holds init_text
 
 -- The choices are written, nothing is reported, and the status is 0.
 pub record WritesChoices (held holds : Option (List ℕ)) (reported reports : Reported) (text : List ℕ) (status : ℕ)
