@@ -67,6 +67,16 @@ pub enum Asked<'a> {
         /// Whether the answers are written as they come.
         json: bool,
     },
+    /// The command `init`.
+    Init,
+    /// The command `leave`, which tells a running node to leave its group.
+    Leave {
+        /// The text that should be the address of the node's status server, which may be no address. If the command
+        /// line has none, it is [`DEFAULT_AT`].
+        at: &'a str,
+        /// The text that should be the node's name, which may be no name. It is empty if the command line has none.
+        name: &'a str,
+    },
     /// The command `sim`.
     Sim,
     /// The command `timeouts`.
@@ -92,6 +102,8 @@ impl Asked<'_> {
             | Asked::Order { .. }
             | Asked::Check { .. }
             | Asked::Ask { .. }
+            | Asked::Init
+            | Asked::Leave { .. }
             | Asked::Sim => true,
         }
     }

@@ -29,13 +29,15 @@ const CONFIG: OptionRow<'static> = OptionRow {
     help: "The file that has the node's configuration",
 };
 
+const AT: OptionRow<'static> = OptionRow {
+    id: "at",
+    takes: Takes::DefaultText("A.B.C.D:PORT", DEFAULT_AT),
+    help: "The address at which the node's status server listens",
+};
+
 /// The options of a command that asks a running node. Neither has to be given.
 const ASK: &[OptionRow<'static>] = &[
-    OptionRow {
-        id: "at",
-        takes: Takes::DefaultText("A.B.C.D:PORT", DEFAULT_AT),
-        help: "The address at which the node's status server listens",
-    },
+    AT,
     OptionRow {
         id: "json",
         takes: Takes::Nothing,
@@ -44,7 +46,7 @@ const ASK: &[OptionRow<'static>] = &[
 ];
 
 /// The commands, in the order of the help.
-const COMMANDS: [CommandRow<'static>; 9] = [
+const COMMANDS: [CommandRow<'static>; 11] = [
     CommandRow {
         name: "answer",
         about: "Answers packets, a line of hex each, as a detector does",
@@ -134,6 +136,11 @@ const COMMANDS: [CommandRow<'static>; 9] = [
         options: &[CONFIG],
     },
     CommandRow {
+        name: "init",
+        about: "Writes a configuration of a node to begin with",
+        options: &[],
+    },
+    CommandRow {
         name: "members",
         about: "Writes whom a running node knows",
         options: ASK,
@@ -147,6 +154,18 @@ const COMMANDS: [CommandRow<'static>; 9] = [
         name: "watch",
         about: "Writes each change of a member that a running node tells, until the node ends",
         options: ASK,
+    },
+    CommandRow {
+        name: "leave",
+        about: "Tells a running node to leave its group, and waits until it has ended",
+        options: &[
+            AT,
+            OptionRow {
+                id: "name",
+                takes: Takes::OptionalText("NAME"),
+                help: "The node's name; without it, the node is asked for it first",
+            },
+        ],
     },
 ];
 

@@ -18,6 +18,8 @@ use std::alloc::Global;
 pub(crate) enum Takes<'a> {
     /// A text, which has this name in the help and has to be given.
     RequiredText(&'a str),
+    /// A text, which has this name in the help and needn't be given.
+    OptionalText(&'a str),
     /// A text, which has this name in the help, with its default.
     DefaultText(&'a str, &'a str),
     /// A number from the first to the second, which has to be given.
@@ -46,6 +48,7 @@ pub(crate) fn option_of<'a>(alloc: Global, row: &OptionRow<'a>) -> Arg<'a>
     let (id, help) = (row.id, row.help);
     match row.takes {
         Takes::RequiredText(text) => text_option(alloc, id, text, help),
+        Takes::OptionalText(text) => valued_option(alloc, id, text, help),
         Takes::DefaultText(text, default) => default_text_option(alloc, id, text, default, help),
         Takes::RequiredNumber(least, most) => {
             number_option(alloc, id, least, most, help).required(true)

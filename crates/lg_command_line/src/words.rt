@@ -104,6 +104,11 @@ fn asked_of<'a>(name: &str, found: &ArgMatches<'a>) -> Asked<'a>
         "members" => ask_in(Question::Members, found),
         "status" => ask_in(Question::Status, found),
         "watch" => ask_in(Question::Watch, found),
+        "init" => Asked::Init,
+        "leave" => Asked::Leave {
+            at: text_in(found, "at"),
+            name: text_in(found, "name"),
+        },
         _ => Asked::Answer {
             name: text_in(found, "name"),
         },

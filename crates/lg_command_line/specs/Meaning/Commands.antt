@@ -93,10 +93,17 @@ node_app =
 abbrev pub check_app : App
 check_app = with_rule (new_app (codes "check")) (text_rule (codes "config"))
 
+-- this command has no options
+abbrev pub init_app : App
+init_app = new_app (codes "init")
+
+-- an option `--ID TEXT`, which needn't be given
+abbrev pub optional_text_rule : Text → Rule
+optional_text_rule id = record (new_rule id) { long = Some id; value_names = 1; action = Some Set }
+
 -- an option `--ID TEXT` that has a default
 abbrev pub default_text_rule : Text → Text → Rule
-default_text_rule id value =
-    default_rule (record (new_rule id) { long = Some id; value_names = 1; action = Some Set }) value
+default_text_rule id value = default_rule (optional_text_rule id) value
 
 -- where the status server of a running node listens
 abbrev pub at_rule : Rule
@@ -112,13 +119,19 @@ with_questions lg =
     let members = with_subcommand lg (ask_app (codes "members")).top in
     with_subcommand (with_subcommand members (ask_app (codes "status")).top) (ask_app (codes "watch")).top
 
--- The program has the commands `answer`, `order`, `timeouts`, `sim`, `node` and `check`, and `members`, `status` and
--- `watch`, which ask a running node. One of them has to be named. It has a version, which `--version` and `-V` ask for.
+-- the command that tells a running node to leave its group, whose options needn't be given
+abbrev pub leave_app : App
+leave_app = with_rule (with_rule (new_app (codes "leave")) at_rule) (optional_text_rule (codes "name"))
+
+-- The program has the commands `answer`, `order`, `timeouts`, `sim`, `node`, `check` and `init`, and `members`,
+-- `status`, `watch` and `leave`, which ask a running node. One of them has to be named. It has a version, which
+-- `--version` and `-V` ask for.
 abbrev pub lg_app : App
 lg_app =
     let lg = on_top (λ s. record s { has_version = true; subcommand_required = true }) (new_app (codes "lg")) in
-    let others = with_subcommand (with_subcommand (with_subcommand lg answer_app.top) order_app.top) timeouts_app.top in
-    with_questions (with_subcommand (with_subcommand (with_subcommand others sim_app.top) node_app.top) check_app.top)
+    let first = with_subcommand (with_subcommand (with_subcommand lg answer_app.top) order_app.top) timeouts_app.top in
+    let others = with_subcommand (with_subcommand (with_subcommand first sim_app.top) node_app.top) check_app.top in
+    with_subcommand (with_questions (with_subcommand others init_app.top)) leave_app.top
 
 -- the text of an option, or an empty text if it has none
 abbrev pub text_in : List Row → Text → Text
@@ -152,7 +165,8 @@ numbers_in rows = record {
 
 -- What a command line asks for: a command with its options. For `node` these are its file, for how many milliseconds
 -- it runs if it was said, whether it follows what changes, and whether it ends with its input. For a question to a
--- running node they are the text of its address, and whether the answers are written as they come.
+-- running node they are the text of its address, and whether the answers are written as they come. For `leave` they are
+-- the text of the node's address, and that of its name, which is empty if none was given.
 pub data Request : Type 0 where
   answer : Text → Request
   order : Text → Text → Request
@@ -161,6 +175,8 @@ pub data Request : Type 0 where
   node : Text → Option ℕ → Bool → Bool → Request
   check : Text → Request
   ask : Question → Text → Bool → Request
+  init : Request
+  leave : Text → Text → Request
 
 -- whether the command of this name was met
 abbrev pub is_met : Text → Option (Text × List Row) → Bool
@@ -191,6 +207,8 @@ request_of_rows met =
     else if is_met (codes "members") met then ask_of_rows Members rows
     else if is_met (codes "status") met then ask_of_rows Status rows
     else if is_met (codes "watch") met then ask_of_rows Watch rows
+    else if is_met (codes "init") met then init
+    else if is_met (codes "leave") met then leave (text_in rows (codes "at")) (text_in rows (codes "name"))
     else answer (text_in rows (codes "name"))
 
 -- what a command line asks for, if it is taken
@@ -206,6 +224,8 @@ has_good_numbers sim = true
 has_good_numbers (node file for_ms follow until_input_ends) = option_map_or (is_within 1 most_run_ms) for_ms true
 has_good_numbers (check file) = true
 has_good_numbers (ask question at json) = true
+has_good_numbers init = true
+has_good_numbers (leave at name) = true
 
 -- the fault of numbers that aren't good
 abbrev pub request_faults : Request → Kinds
@@ -224,6 +244,8 @@ IfAnswer sim P = Unit {0}
 IfAnswer (node file for_ms follow until_input_ends) P = Unit {0}
 IfAnswer (check file) P = Unit {0}
 IfAnswer (ask question at json) P = Unit {0}
+IfAnswer init P = Unit {0}
+IfAnswer (leave at name) P = Unit {0}
 
 -- a fact about the two texts of `order`: its names and its words
 abbrev pub IfOrder : Request → (Text → Text → Type 0) → Type 0
@@ -234,6 +256,8 @@ IfOrder sim P = Unit {0}
 IfOrder (node file for_ms follow until_input_ends) P = Unit {0}
 IfOrder (check file) P = Unit {0}
 IfOrder (ask question at json) P = Unit {0}
+IfOrder init P = Unit {0}
+IfOrder (leave at name) P = Unit {0}
 
 -- a fact about the numbers of `timeouts`
 abbrev pub IfTimeouts : Request → (Numbers → Type 0) → Type 0
@@ -244,6 +268,8 @@ IfTimeouts sim P = Unit {0}
 IfTimeouts (node file for_ms follow until_input_ends) P = Unit {0}
 IfTimeouts (check file) P = Unit {0}
 IfTimeouts (ask question at json) P = Unit {0}
+IfTimeouts init P = Unit {0}
+IfTimeouts (leave at name) P = Unit {0}
 
 -- a fact that holds if `sim` is asked for
 abbrev pub IfSim : Request → Type 0 → Type 0
@@ -254,6 +280,8 @@ IfSim sim P = P
 IfSim (node file for_ms follow until_input_ends) P = Unit {0}
 IfSim (check file) P = Unit {0}
 IfSim (ask question at json) P = Unit {0}
+IfSim init P = Unit {0}
+IfSim (leave at name) P = Unit {0}
 
 -- a fact about the options of `node`: its file, its time, whether it follows, and whether it ends with its input
 abbrev pub IfNode : Request → (Text → Option ℕ → Bool → Bool → Type 0) → Type 0
@@ -264,6 +292,8 @@ IfNode sim P = Unit {0}
 IfNode (node file for_ms follow until_input_ends) P = P file for_ms follow until_input_ends
 IfNode (check file) P = Unit {0}
 IfNode (ask question at json) P = Unit {0}
+IfNode init P = Unit {0}
+IfNode (leave at name) P = Unit {0}
 
 -- a fact about the file of `check`
 abbrev pub IfCheck : Request → (Text → Type 0) → Type 0
@@ -274,6 +304,8 @@ IfCheck sim P = Unit {0}
 IfCheck (node file for_ms follow until_input_ends) P = Unit {0}
 IfCheck (check file) P = P file
 IfCheck (ask question at json) P = Unit {0}
+IfCheck init P = Unit {0}
+IfCheck (leave at name) P = Unit {0}
 
 -- a fact about a question to a running node, the text of its address, and whether the answers are written as they come
 abbrev pub IfAsk : Request → (Question → Text → Bool → Type 0) → Type 0
@@ -284,6 +316,32 @@ IfAsk sim P = Unit {0}
 IfAsk (node file for_ms follow until_input_ends) P = Unit {0}
 IfAsk (check file) P = Unit {0}
 IfAsk (ask question at json) P = P question at json
+IfAsk init P = Unit {0}
+IfAsk (leave at name) P = Unit {0}
+
+-- a fact that holds if `init` is asked for
+abbrev pub IfInit : Request → Type 0 → Type 0
+IfInit (answer text) P = Unit {0}
+IfInit (order names words) P = Unit {0}
+IfInit (timeouts numbers) P = Unit {0}
+IfInit sim P = Unit {0}
+IfInit (node file for_ms follow until_input_ends) P = Unit {0}
+IfInit (check file) P = Unit {0}
+IfInit (ask question at json) P = Unit {0}
+IfInit init P = P
+IfInit (leave at name) P = Unit {0}
+
+-- a fact about the two texts of `leave`: the node's address and its name
+abbrev pub IfLeave : Request → (Text → Text → Type 0) → Type 0
+IfLeave (answer text) P = Unit {0}
+IfLeave (order names words) P = Unit {0}
+IfLeave (timeouts numbers) P = Unit {0}
+IfLeave sim P = Unit {0}
+IfLeave (node file for_ms follow until_input_ends) P = Unit {0}
+IfLeave (check file) P = Unit {0}
+IfLeave (ask question at json) P = Unit {0}
+IfLeave init P = Unit {0}
+IfLeave (leave at name) P = P at name
 
 -- the status of a command line that isn't run: 0 if it asks for help or for the version
 abbrev pub status_of_kind : ErrorKind → ℕ

@@ -5,7 +5,8 @@ use Rattle.clap.proofs.OnLiterals.{clap_on_literals}
 use Rattle.clap.specs.declared.error.kind.ErrorKind.TheVariants as kind
 use Rattle.lg_timing.specs.declared.keys.Key.TheVariants.{Alpha, Beta, Confirmations, IntervalMs}
 use Rattle.lg_timing.specs.Meaning.Keys.{row_of}
-use Rattle.lg_command_line.specs.Meaning.Commands.{answer, ask, check, node, order, timeouts, asked, line_faults}
+use Rattle.lg_command_line.specs.Meaning.Commands.{answer, ask, check, init, leave, node, order, timeouts}
+use Rattle.lg_command_line.specs.Meaning.Commands.{asked, line_faults}
 use Rattle.lg_command_line.specs.declared.asked.Question.TheVariants.{Members, Status, Watch}
 
 taken : line_faults (codes "lg" ∷ codes "answer" ∷ codes "--name" ∷ codes "b" ∷ []) ≡ []
@@ -214,3 +215,43 @@ json-with-a-value = refl
 no-such-question : line_faults (codes "lg" ∷ codes "watch" ∷ codes "b" ∷ []) ≡ kind.UnknownArgument ∷ []
 unfolding line_faults asked clap_on_literals
 no-such-question = refl
+
+first-file : asked (codes "lg" ∷ codes "init" ∷ []) ≡ init
+unfolding asked clap_on_literals
+first-file = refl
+
+first-file-taken : line_faults (codes "lg" ∷ codes "init" ∷ []) ≡ []
+unfolding line_faults asked clap_on_literals
+first-file-taken = refl
+
+first-file-named : line_faults (codes "lg" ∷ codes "init" ∷ codes "a.toml" ∷ []) ≡ kind.UnknownArgument ∷ []
+unfolding line_faults asked clap_on_literals
+first-file-named = refl
+
+-- an empty text stands for a name that wasn't given
+unnamed-node : asked (codes "lg" ∷ codes "leave" ∷ []) ≡ leave (codes "127.0.0.1:8946") []
+unfolding asked clap_on_literals
+unnamed-node = refl
+
+named-node : asked (codes "lg" ∷ codes "leave" ∷ codes "--name=b" ∷ codes "--at" ∷ codes "127.0.0.1:80" ∷ [])
+    ≡ leave (codes "127.0.0.1:80") (codes "b")
+unfolding asked clap_on_literals
+named-node = refl
+
+nothing-given-to-leave : line_faults (codes "lg" ∷ codes "leave" ∷ []) ≡ []
+unfolding line_faults asked clap_on_literals
+nothing-given-to-leave = refl
+
+-- the name is judged after the command line is taken
+any-name : line_faults (codes "lg" ∷ codes "leave" ∷ codes "--name=a/b" ∷ []) ≡ []
+unfolding line_faults asked clap_on_literals
+any-name = refl
+
+two-nodes : line_faults (codes "lg" ∷ codes "leave" ∷ codes "--name=a" ∷ codes "--name=b" ∷ [])
+    ≡ kind.ArgumentConflict ∷ []
+unfolding line_faults asked clap_on_literals
+two-nodes = refl
+
+no-json-of-a-leave : line_faults (codes "lg" ∷ codes "leave" ∷ codes "--json" ∷ []) ≡ kind.UnknownArgument ∷ []
+unfolding line_faults asked clap_on_literals
+no-json-of-a-leave = refl

@@ -6,12 +6,12 @@ use Rattle.clap.specs.Walk.{Rule, Text}
 use Rattle.clap.specs.declared.builder.action.ArgAction.TheVariants.{Set}
 use Rattle.lg_timing.specs.Meaning.Keys.{row_of}
 use Rattle.lg_command_line.specs.Meaning.Commands.{default_rule, default_text_rule, flag_rule, number_rule}
-use Rattle.lg_command_line.specs.Meaning.Commands.{required_rule, text_rule}
+use Rattle.lg_command_line.specs.Meaning.Commands.{optional_text_rule, required_rule, text_rule}
 use Rattle.lg_command_line.specs.declared.command.CommandRow.{CommandRow}
 use Rattle.lg_command_line.specs.declared.options.OptionRow.{OptionRow}
 use Rattle.lg_command_line.specs.declared.options.Takes.{Takes}
 use Rattle.lg_command_line.specs.declared.options.Takes.TheVariants.{DefaultText, Nothing, Number, OfKey}
-use Rattle.lg_command_line.specs.declared.options.Takes.TheVariants.{RequiredNumber, RequiredText}
+use Rattle.lg_command_line.specs.declared.options.Takes.TheVariants.{OptionalText, RequiredNumber, RequiredText}
 
 -- an option `--ID`
 abbrev pub named_rule : Text → Rule
@@ -24,6 +24,7 @@ valued_rule id = record (named_rule id) { value_names = 1; action = Some Set }
 -- an option of this name, which takes this
 abbrev pub rule_taking : Text → Takes → Rule
 rule_taking id (RequiredText name) = text_rule id
+rule_taking id (OptionalText name) = optional_text_rule id
 rule_taking id (DefaultText name default) = default_text_rule id default.now
 rule_taking id (RequiredNumber least most) = required_rule (number_rule id least most)
 rule_taking id (Number least most) = number_rule id least most

@@ -1,7 +1,8 @@
 -- What a command line asks for, as the program holds it.
-use Rattle.lg_command_line.specs.Meaning.Commands.{Request, answer, ask, check, node, order, sim, timeouts}
+use Rattle.lg_command_line.specs.Meaning.Commands.{Request, answer, ask, check, init, leave, node, order, sim, timeouts}
 use Rattle.lg_command_line.specs.declared.asked.Asked.{Asked}
-use Rattle.lg_command_line.specs.declared.asked.Asked.TheVariants.{Answer, Ask, Check, Node, Order, Sim, Timeouts}
+use Rattle.lg_command_line.specs.declared.asked.Asked.TheVariants.{Answer, Ask, Check, Init, Leave, Node, Order}
+use Rattle.lg_command_line.specs.declared.asked.Asked.TheVariants.{Sim, Timeouts}
 
 abbrev pub request_of : Asked → Request
 request_of (Answer name) = answer name.now
@@ -11,3 +12,5 @@ request_of (Timeouts numbers) = timeouts numbers
 request_of (Node file for_ms follow until_input_ends) = node file.now for_ms follow until_input_ends
 request_of (Check file) = check file.now
 request_of (Ask question at json) = ask question at.now json
+request_of Init = init
+request_of (Leave at name) = leave at.now name.now
