@@ -1,5 +1,5 @@
 -- The calls that one `advance` makes are answered from one state of the site.
-use Rattle.std.proofs.Common.{◌≡◌, ℕ, List, [], ◌∷◌, ◌++◌, All, sym, ap, subst, ◌∙◌, append_assoc}
+use Rattle.std.proofs.Common.{◌≡◌, ℕ, Bool, List, [], ◌∷◌, ◌++◌, All, sym, ap, subst, ◌∙◌, append_assoc}
 use Rattle.std.proofs.lemmas.List.Elements.{All-nil, All-cons, All-append, All-head, All-tail, All-weaker}
 use Rattle.std.proofs.lemmas.List.{append-nil}
 use Rattle.http.specs.declared.request.Request.{Request}
@@ -9,45 +9,45 @@ use Rattle.lg_http.specs.declared.desk.Desk.{Desk}
 use Rattle.lg_http.specs.declared.hosts.Hosts.{Hosts}
 use Rattle.lg_http.specs.Meaning.Fronts.{WaitRule}
 use Rattle.lg_http.specs.Meaning.Parked.{Slot, parked_count}
-use Rattle.lg_http.specs.Meaning.Answers.{SiteAnswers, SiteVersion, SiteReplies, SiteOrder, IsSiteOrder, IsTooMany, RepliesAmong, Replies, AreAnswered, AddsCalls}
+use Rattle.lg_http.specs.Meaning.Answers.{SiteAnswers, SiteActs, SiteVersion, SiteReplies, SiteOrder, IsSiteOrder, IsTooMany, RepliesAmong, Replies, AreAnswered, AddsCalls}
 
 -- what a desk answers, by the version that it has been told
-abbrev pub DeskAnswers : {S : Type 0} → SiteAnswers S → WaitRule → Desk S → Request (List ℕ) → Response → Desk S → Type 0
-DeskAnswers answers waits old request response new =
-    (new ≡ old) × RepliesAmong answers (λ _. old.version) waits old.hosts old.others old.site (request, response)
+abbrev pub DeskAnswers : {S : Type 0} → SiteAnswers S → SiteActs S → WaitRule → Desk S → Request (List ℕ) → Response → Desk S → Type 0
+DeskAnswers answers acts waits old request response new =
+    (new ≡ old) × RepliesAmong answers acts (λ _. old.version) waits old.hosts old.others old.is_loopback old.site (request, response)
 
 -- what a desk answers to one call after another
-abbrev pub DeskReplies : {S : Type 0} → SiteAnswers S → SiteVersion S → WaitRule → Desk S → Call → Type 0
-DeskReplies answers version waits desk = RepliesAmong answers version waits desk.hosts desk.others desk.site
+abbrev pub DeskReplies : {S : Type 0} → SiteAnswers S → SiteActs S → SiteVersion S → WaitRule → Desk S → Call → Type 0
+DeskReplies answers acts version waits desk = RepliesAmong answers acts version waits desk.hosts desk.others desk.is_loopback desk.site
 
 -- if the desk knows which version its site shows, its reply is right by that
-known_reply : {S : Type 0} (answers : SiteAnswers S) (version : SiteVersion S) (waits : WaitRule) (desk : Desk S) (call : Call)
-    → desk.version ≡ version desk.site → RepliesAmong answers (λ _. desk.version) waits desk.hosts desk.others desk.site call
-    → DeskReplies answers version waits desk call
-known_reply answers version waits desk call knows reply =
+known_reply : {S : Type 0} (answers : SiteAnswers S) (acts : SiteActs S) (version : SiteVersion S) (waits : WaitRule) (desk : Desk S) (call : Call)
+    → desk.version ≡ version desk.site → RepliesAmong answers acts (λ _. desk.version) waits desk.hosts desk.others desk.is_loopback desk.site call
+    → DeskReplies answers acts version waits desk call
+known_reply answers acts version waits desk call knows reply =
     (reply.0, subst (λ (v : ℕ). IsTooMany waits v desk.others call.0 reply.0) knows reply.1, reply.2)
 
-pub chain_answered : {S : Type 0} (answers : SiteAnswers S) (version : SiteVersion S) (waits : WaitRule) (calls : List Call) (old new : Desk S)
+pub chain_answered : {S : Type 0} (answers : SiteAnswers S) (acts : SiteActs S) (version : SiteVersion S) (waits : WaitRule) (calls : List Call) (old new : Desk S)
     → old.version ≡ version old.site
-    → Chain (DeskAnswers answers waits) old calls new → (new ≡ old) × All (DeskReplies answers version waits old) calls
-chain_answered answers version waits [] old new knows x = (x, All-nil (DeskReplies answers version waits old))
-chain_answered {S} answers version waits (c ∷ calls) old new knows x =
+    → Chain (DeskAnswers answers acts waits) old calls new → (new ≡ old) × All (DeskReplies answers acts version waits old) calls
+chain_answered answers acts version waits [] old new knows x = (x, All-nil (DeskReplies answers acts version waits old))
+chain_answered {S} answers acts version waits (c ∷ calls) old new knows x =
     let still : x.0.version ≡ version x.0.site = subst (λ (d : Desk S). d.version ≡ version d.site) (sym x.1.0) knows in
-    let later = chain_answered answers version waits calls x.0 new still x.2 in (
+    let later = chain_answered answers acts version waits calls x.0 new still x.2 in (
       later.0 ∙ x.1.0,
-      All-cons (DeskReplies answers version waits old) c calls (known_reply answers version waits old c knows x.1.1)
-          (subst (λ (d : Desk S). All (DeskReplies answers version waits d) calls) x.1.0 later.1),
+      All-cons (DeskReplies answers acts version waits old) c calls (known_reply answers acts version waits old c knows x.1.1)
+          (subst (λ (d : Desk S). All (DeskReplies answers acts version waits d) calls) x.1.0 later.1),
     )
 
 -- what is right among so many other long polls is right among some
-pub among_some : {S : Type 0} (answers : SiteAnswers S) (version : SiteVersion S) (waits : WaitRule) (hosts : Hosts) (site : S)
-    (others : List Slot) (n : ℕ) (old new : List Call) → parked_count others ≡ n
-    → AddsCalls (RepliesAmong answers version waits hosts n) site old new → AddsCalls (Replies answers version waits hosts) site old new
-among_some answers version waits hosts site others n old new counted adds = (
+pub among_some : {S : Type 0} (answers : SiteAnswers S) (acts : SiteActs S) (version : SiteVersion S) (waits : WaitRule) (hosts : Hosts) (site : S)
+    (others : List Slot) (n : ℕ) (loopback : Bool) (old new : List Call) → parked_count others ≡ n
+    → AddsCalls (RepliesAmong answers acts version waits hosts n loopback) site old new → AddsCalls (Replies answers acts version waits hosts) site old new
+among_some answers acts version waits hosts site others n loopback old new counted adds = (
   adds.0,
   adds.1,
-  All-weaker (RepliesAmong answers version waits hosts n site) (Replies answers version waits hosts site)
-      (λ (call : Call) reply. (others, subst (λ (m : ℕ). RepliesAmong answers version waits hosts m site call) (sym counted) reply))
+  All-weaker (RepliesAmong answers acts version waits hosts n loopback site) (Replies answers acts version waits hosts site)
+      (λ (call : Call) reply. (others, loopback, subst (λ (m : ℕ). RepliesAmong answers acts version waits hosts m loopback site call) (sym counted) reply))
       adds.0 adds.2,
 )
 

@@ -1,5 +1,5 @@
 -- What holds of the slots when one of them changes.
-use Rattle.std.proofs.Common.{◌≡◌, ℕ, ◌+◌, ◌-◌, ◌≤◌, ◌<◌, List, [], ◌∷◌, ◌++◌, inl, inr, append_assoc, length, get_or, set, replicate, All, None, Some, arith, refl, sym, ap, subst, ◌∙◌}
+use Rattle.std.proofs.Common.{◌≡◌, ℕ, Bool, ◌+◌, ◌-◌, ◌≤◌, ◌<◌, List, [], ◌∷◌, ◌++◌, inl, inr, append_assoc, length, get_or, set, replicate, All, None, Some, arith, refl, sym, ap, subst, ◌∙◌}
 use Rattle.std.proofs.lemmas.List.{length-set, length-replicate, append-nil, get_or_default}
 use Rattle.std.proofs.lemmas.List.Elements.{All-nil, All-cons, All-append, All-set, All-get_or, All-weaker, All-replicate}
 use Rattle.std.proofs.lemmas.List.Sums.{sum_by-set, sum_by_more, sum_by-take-le}
@@ -9,11 +9,11 @@ use Rattle.lg_http.specs.declared.peer.Peer.{Peer}
 use Rattle.lg_http.specs.declared.hosts.Hosts.{Hosts}
 use Rattle.lg_http.specs.declared.slots.Slots.{Slots}
 use Rattle.lg_http.specs.declared.slots.TheConstants.{MAX_PEERS, MAX_PARKED}
-use Rattle.lg_http.specs.Meaning.Answers.{SiteAnswers, SiteVersion, SiteReplies, SiteOrder, IsSiteOrder, RepliesAmong, Replies}
+use Rattle.lg_http.specs.Meaning.Answers.{SiteAnswers, SiteActs, SiteVersion, SiteReplies, SiteOrder, IsSiteOrder, RepliesAmong, Replies}
 use Rattle.lg_http.specs.Meaning.Fronts.{WaitRule}
 use Rattle.lg_http.proofs.ChainLaws.{answered_until, adds_answered, among_some}
 use Rattle.lg_http.specs.Meaning.Peers.{IsBounded, AnswersInOrder, IsNewPeer, calls_of}
-use Rattle.lg_http.specs.Meaning.Parked.{Slot, parked_in, parked_count}
+use Rattle.lg_http.specs.Meaning.Parked.{Slot, loopback_in, parked_in, parked_count}
 use Rattle.lg_http.specs.Meaning.Slots.{InSlot, IsAnsweredPeer, IsAnsweredSlot, Ended, HadTurn, AddsEnded, AreFree, AreSlots, AreServed, noted_from}
 
 always_in_slot : (slot : Slot) → InSlot AnswersInOrder slot
@@ -173,22 +173,22 @@ ends_until replies later order now site goes_on old new a = (
 )
 
 -- a slot after the turn of its connection
-pub turn_answered : {S : Type 0} (answers : SiteAnswers S) (version : SiteVersion S) (waits : WaitRule) (hosts : Hosts) (later : SiteOrder S)
-    → IsSiteOrder later → (site : S) (others : List Slot) (n : ℕ) (old new : Slot) (before after : List Ended) → parked_count others ≡ n
-    → HadTurn (RepliesAmong answers version waits hosts n) site old new before after
-    → IsAnsweredSlot (Replies answers version waits hosts) later site old
-    → IsAnsweredSlot (Replies answers version waits hosts) later site new
-    × AddsEnded (Replies answers version waits hosts) later site before after
-turn_answered answers version waits hosts later order site others n None new before after counted had h =
-    (rw had.0 tt, ends_none (Replies answers version waits hosts) later site before after had.1)
-turn_answered answers version waits hosts later order site others n (Some peer) new before after counted had h =
+pub turn_answered : {S : Type 0} (answers : SiteAnswers S) (acts : SiteActs S) (version : SiteVersion S) (waits : WaitRule) (hosts : Hosts) (later : SiteOrder S)
+    → IsSiteOrder later → (site : S) (others : List Slot) (n : ℕ) (loopback : Bool) (old new : Slot) (before after : List Ended) → parked_count others ≡ n
+    → HadTurn (RepliesAmong answers acts version waits hosts n loopback) site old new before after
+    → IsAnsweredSlot (Replies answers acts version waits hosts) later site old
+    → IsAnsweredSlot (Replies answers acts version waits hosts) later site new
+    × AddsEnded (Replies answers acts version waits hosts) later site before after
+turn_answered answers acts version waits hosts later order site others n loopback None new before after counted had h =
+    (rw had.0 tt, ends_none (Replies answers acts version waits hosts) later site before after had.1)
+turn_answered answers acts version waits hosts later order site others n loopback (Some peer) new before after counted had h =
     let last = had.0 in
-    let adds = among_some answers version waits hosts site others n (calls_of peer) (calls_of last) counted had.1 in
-    let answered : IsAnsweredPeer (Replies answers version waits hosts) later site last =
-    adds_answered (Replies answers version waits hosts) later order site (calls_of peer) (calls_of last) adds h in
+    let adds = among_some answers acts version waits hosts site others n loopback (calls_of peer) (calls_of last) counted had.1 in
+    let answered : IsAnsweredPeer (Replies answers acts version waits hosts) later site last =
+    adds_answered (Replies answers acts version waits hosts) later order site (calls_of peer) (calls_of last) adds h in
     elim had.2 [
-      | inl kept ↦ (rw kept.0 answered, ends_none (Replies answers version waits hosts) later site before after kept.1)
-      | inr gone ↦ (rw gone.0 tt, ends_one (Replies answers version waits hosts) later site before after last gone.1.0 gone.1.1 answered)
+      | inl kept ↦ (rw kept.0 answered, ends_none (Replies answers acts version waits hosts) later site before after kept.1)
+      | inr gone ↦ (rw gone.0 tt, ends_one (Replies answers acts version waits hosts) later site before after last gone.1.0 gone.1.1 answered)
     ]
 
 -- what has happened is whole
@@ -235,38 +235,38 @@ noted_read slots k at slot old new within there noted =
     noted ∙ ap (λ (s : Slot). noted_from old at s) (there ∙ get_or_default slots k slot None within)
 
 -- the slots after one of them had its turn, and those that ended
-pub slots_after : {S : Type 0} (answers : SiteAnswers S) (version : SiteVersion S) (waits : WaitRule) (hosts known : Hosts) (later : SiteOrder S)
+pub slots_after : {S : Type 0} (answers : SiteAnswers S) (acts : SiteActs S) (version : SiteVersion S) (waits : WaitRule) (hosts known : Hosts) (later : SiteOrder S)
     → IsSiteOrder later → (site now : S) (slots : List Slot) (k before after : ℕ) (old new : Slot) (first was is : List Ended)
     → known ≡ hosts → now ≡ site → before ≡ parked_count slots → after + parked_in old ≡ before + parked_in new
     → (before ≤ MAX_PARKED → after ≤ MAX_PARKED) → (InSlot IsBounded old → InSlot IsBounded new)
     → old ≡ get_or slots k old → k < length slots
-    → HadTurn (RepliesAmong answers version waits known (before - parked_in old)) now old new was is
-    → AreSlots (Replies answers version waits hosts) later site slots → AddsEnded (Replies answers version waits hosts) later site first was
-    → AreSlots (Replies answers version waits hosts) later site (set slots k new)
-    × AddsEnded (Replies answers version waits hosts) later site first is
-slots_after answers version waits hosts known later order site now slots k before after old new first was is same_hosts same counted moved few bounded there within had h adds =
-    let replies = Replies answers version waits hosts in
+    → HadTurn (RepliesAmong answers acts version waits known (before - parked_in old) (loopback_in old)) now old new was is
+    → AreSlots (Replies answers acts version waits hosts) later site slots → AddsEnded (Replies answers acts version waits hosts) later site first was
+    → AreSlots (Replies answers acts version waits hosts) later site (set slots k new)
+    × AddsEnded (Replies answers acts version waits hosts) later site first is
+slots_after answers acts version waits hosts known later order site now slots k before after old new first was is same_hosts same counted moved few bounded there within had h adds =
+    let replies = Replies answers acts version waits hosts in
     let among = parked_others slots k before old counted there within in
     let recounted = parked_more slots k before after old new counted moved there within in
-    let turn : HadTurn (RepliesAmong answers version waits hosts (before - parked_in old)) site old new was is =
-    subst (λ (x : Hosts). HadTurn (RepliesAmong answers version waits x (before - parked_in old)) site old new was is) same_hosts
-    (subst (λ x. HadTurn (RepliesAmong answers version waits known (before - parked_in old)) x old new was is) same had) in
+    let turn : HadTurn (RepliesAmong answers acts version waits hosts (before - parked_in old) (loopback_in old)) site old new was is =
+    subst (λ (x : Hosts). HadTurn (RepliesAmong answers acts version waits x (before - parked_in old) (loopback_in old)) site old new was is) same_hosts
+    (subst (λ x. HadTurn (RepliesAmong answers acts version waits known (before - parked_in old) (loopback_in old)) x old new was is) same had) in
     let turned =
-    turn_answered answers version waits hosts later order site (set slots k None) (before - parked_in old) old new was is among turn
+    turn_answered answers acts version waits hosts later order site (set slots k None) (before - parked_in old) (loopback_in old) old new was is among turn
     (subst (IsAnsweredSlot replies later site) (sym there) (All-get_or (IsAnsweredSlot replies later site) slots k old within h.answered)) in (
       slots_more replies later site slots k before after old new counted recounted few bounded turned.0 there within h,
       ends_both replies later site first was is adds turned.1,
     )
 
 -- some time, and then more, in which the site went on
-pub served_more : {S : Type 0} (answers : SiteAnswers S) (version : SiteVersion S) (waits : WaitRule) (hosts known : Hosts) (later : SiteOrder S)
+pub served_more : {S : Type 0} (answers : SiteAnswers S) (acts : SiteActs S) (version : SiteVersion S) (waits : WaitRule) (hosts known : Hosts) (later : SiteOrder S)
     → IsSiteOrder later → (now site : S) (old mid new : Slots) → known ≡ hosts → later now site
-    → (AreSlots (Replies answers version waits known) later now mid.slots.items → AreServed (Replies answers version waits known) later site mid new)
-    → AreServed (Replies answers version waits hosts) later now old mid → AreServed (Replies answers version waits hosts) later site old new
-served_more answers version waits hosts known later order now site old mid new same goes_on more was =
-    let replies = Replies answers version waits hosts in
+    → (AreSlots (Replies answers acts version waits known) later now mid.slots.items → AreServed (Replies answers acts version waits known) later site mid new)
+    → AreServed (Replies answers acts version waits hosts) later now old mid → AreServed (Replies answers acts version waits hosts) later site old new
+served_more answers acts version waits hosts known later order now site old mid new same goes_on more was =
+    let replies = Replies answers acts version waits hosts in
     let step : AreSlots replies later now mid.slots.items → AreServed replies later site mid new =
-    subst (λ (x : Hosts). AreSlots (Replies answers version waits x) later now mid.slots.items → AreServed (Replies answers version waits x) later site mid new)
+    subst (λ (x : Hosts). AreSlots (Replies answers acts version waits x) later now mid.slots.items → AreServed (Replies answers acts version waits x) later site mid new)
     same more in
     served_both replies later site old mid new (served_until replies later order now site goes_on old mid was) (step was.slots)
 

@@ -1,5 +1,6 @@
 -- What is right: whoever wants to believe the contracts reads these.
 pub mod Answers
+pub mod Asked
 pub mod Examples
 pub mod Fronts
 pub mod Hosts

@@ -12,9 +12,11 @@ ghost use Rattle.lg_http.specs.declared.site.Kind.TheVariants.{Json};
 ghost use Rattle.lg_http.specs.Meaning.Answers.{RepliesAmong, IsTooMany, MayWait, IsServedMethod, closing};
 ghost use Rattle.lg_http.specs.Meaning.Answers.{status_number, content_type, kind_words, field_of, has_body};
 ghost use Rattle.lg_http.specs.Meaning.Answers.{would_wait, method_body, crowded_body, misdirected_body};
-ghost use Rattle.lg_http.specs.Meaning.Answers.{allowed, retry};
+ghost use Rattle.lg_http.specs.Meaning.Answers.{allowed, answer_fields, post_allowed, retry};
+ghost use Rattle.lg_http.specs.Meaning.Asked.{asked_from};
 ghost use Rattle.lg_http.specs.Meaning.Hosts.{AnswersTo};
 
+use crate::asked::OtherRequest;
 use crate::hosts::Hosts;
 use crate::site::{HttpAnswer, HttpStatus, Kind, Site, Wait};
 use crate::slots::MAX_PARKED;
@@ -23,9 +25,9 @@ use http::{HeaderName, HeaderValue, Request, StatusCode, Uri, header};
 use http_server::{Response, Service};
 use std::alloc::{AllocError, Global};
 
-/// Answers the requests of all connections from one site: GET and HEAD as the site says, and another method with 405
-/// and `allow`. A long poll too many gets 503 and `retry-after`, a request for another host 421. Each error has a JSON
-/// body.
+/// Answers the requests of all connections from one site: each as the site says, and a method that is neither GET nor
+/// HEAD with 405 and `allow` if the site has no answer to it. A long poll too many gets 503 and `retry-after`, and a
+/// request for another host 421. Each error has a JSON body.
 #[derive(Drop)]
 pub struct Desk<S> {
     alloc: Global,
@@ -35,6 +37,8 @@ pub struct Desk<S> {
     pub(crate) version: u64,
     /// How many long polls of other connections wait.
     pub(crate) others: usize,
+    /// Whether the client that asks is on loopback.
+    pub(crate) is_loopback: bool,
 }
 
 impl<S: Site> Desk<S> {
@@ -49,6 +53,7 @@ impl<S: Site> Desk<S> {
             hosts,
             version: 0,
             others: 0,
+            is_loopback: false,
         }
     }
 
@@ -68,7 +73,9 @@ fn status_code(status: HttpStatus) -> StatusCode
     match status {
         HttpStatus::Fine => StatusCode::OK,
         HttpStatus::BadRequest => StatusCode::BAD_REQUEST,
+        HttpStatus::Forbidden => StatusCode::FORBIDDEN,
         HttpStatus::NotFound => StatusCode::NOT_FOUND,
+        HttpStatus::PostOnly => StatusCode::METHOD_NOT_ALLOWED,
         HttpStatus::Unavailable => StatusCode::SERVICE_UNAVAILABLE,
     }
 }
@@ -106,28 +113,57 @@ fn put_close(is_last: bool, response: &mut Response) -> Result<(), AllocError>
     }
 }
 
+/// Says that POST alone is served.
+fn put_post(response: &mut Response) -> Result<(), AllocError>
+    ensures headers { OnOk result (fields_of response.new ≡ fields_of response.old ++ post_allowed ∷ []) }
+    ensures status { response.new.status ≡ response.old.status }
+    ensures body { response.new.body ≡ response.old.body }
+{
+    response.add_header(header::ALLOW, HeaderValue::from_static("POST"))
+}
+
+/// Says what the head of a site's answer says of it.
+fn put_fields(status: HttpStatus, kind: Kind, response: &mut Response) -> Result<(), AllocError>
+    ensures headers { OnOk result
+        (fields_of response.new ≡ fields_of response.old ++ answer_fields status kind) }
+    ensures status { response.new.status ≡ response.old.status }
+    ensures body { response.new.body ≡ response.old.body }
+{
+    match status {
+        HttpStatus::PostOnly => {
+            put_post(response)?;
+            put_kind(kind, response)
+        }
+        HttpStatus::Fine
+        | HttpStatus::BadRequest
+        | HttpStatus::Forbidden
+        | HttpStatus::NotFound
+        | HttpStatus::Unavailable => put_kind(kind, response),
+    }
+}
+
 /// Fills in what the site answers.
 fn put_answer(answer: HttpAnswer, response: &mut Response) -> Result<(), AllocError>
     requires { response.old.body.items ≡ [] }
     ensures status { response.new.status ≡ status_number answer.status }
     ensures headers { OnOk result
-        (fields_of response.new ≡ fields_of response.old ++ content_type answer.kind ∷ []) }
+        (fields_of response.new ≡ fields_of response.old ++ answer_fields answer.status answer.kind) }
     ensures body { OnOk result (response.new.body.items ≡ answer.body.items) }
 {
     let HttpAnswer { status, kind, body } = answer;
     response.status = status_code(status);
-    put_kind(kind, response)?;
+    put_fields(status, kind, response)?;
     response.body.push(Bytes::from_vec(body)?)
 }
 
-/// The methods that are served.
+/// The methods that each site answers to.
 fn allow_value() -> HeaderValue
     ensures { result.bytes ≡ codes "GET, HEAD" }
 {
     HeaderValue::from_static("GET, HEAD")
 }
 
-/// Says which methods are served.
+/// Says which methods each site answers to.
 fn put_allow(response: &mut Response) -> Result<(), AllocError>
     ensures headers { OnOk result (fields_of response.new ≡ fields_of response.old ++ allowed ∷ []) }
     ensures status { response.new.status ≡ response.old.status }
@@ -136,7 +172,7 @@ fn put_allow(response: &mut Response) -> Result<(), AllocError>
     response.add_header(header::ALLOW, allow_value())
 }
 
-/// Turns a method away that isn't served.
+/// Turns a method away that is neither GET nor HEAD.
 fn put_other(response: &mut Response) -> Result<(), AllocError>
     requires { response.old.body.items ≡ [] }
     ensures status { response.new.status ≡ 405 }
@@ -192,7 +228,7 @@ fn bytes_of(text: Option<&str>) -> Option<&[u8]>
     }
 }
 
-/// Whether a method is served.
+/// Whether a method is GET or HEAD.
 fn is_served(method: &str) -> bool
     ensures { IsTrue result ↔ IsServedMethod method.now }
 {
@@ -206,6 +242,25 @@ fn site_answer<S: Site>(site: &S, alloc: Global, uri: &Uri) -> Result<HttpAnswer
     let path = uri.path().as_bytes();
     let query = bytes_of(uri.query());
     site.answer(alloc, path, query)
+}
+
+/// What a site answers to a request whose method is neither GET nor HEAD.
+#[tactic(auto, using(crate::proofs::ReplyLaws::asked_same))]
+fn site_act<S: Site>(
+    site: &S,
+    alloc: Global,
+    request: &Request<Bytes>,
+    is_loopback: bool,
+) -> Result<Option<HttpAnswer>, AllocError>
+    ensures { IfOk result (λ a. S.acts site.now (asked_from is_loopback request.now) a) }
+{
+    let asked = OtherRequest {
+        method: request.method().as_str(),
+        path: request.uri().path().as_bytes(),
+        is_loopback,
+        headers: request.headers(),
+    };
+    site.act(alloc, &asked)
 }
 
 /// What a site says that a GET of a target waits for.
@@ -269,8 +324,8 @@ impl<S: Site> Service for Desk<S> {
     // Whether a long poll is one too many goes by the version that the desk has been told. In a server it is that of
     // the site.
     ghost answers = { λ old request response new.
-        (new ≡ old) × RepliesAmong S.answers (λ _. old.version) S.waits old.hosts old.others old.site
-        (request, response) };
+        (new ≡ old) × RepliesAmong S.answers S.acts (λ _. old.version) S.waits old.hosts old.others old.is_loopback
+        old.site (request, response) };
 
     fn call(
         &mut self,
@@ -283,7 +338,10 @@ impl<S: Site> Service for Desk<S> {
             return put_misdirected(response);
         }
         if !is_served(request.method().as_str()) {
-            return put_other(response);
+            return match site_act(&self.site, self.alloc, request, self.is_loopback)? {
+                Some(answer) => put_answer(answer, response),
+                None => put_other(response),
+            };
         }
         if is_full {
             return put_crowded(response);

@@ -1,6 +1,7 @@
 //! One thread that serves HTTP/1.1 to up to 256 clients, whose long polls wait for a change.
 #![tactic(auto)]
 
+mod asked;
 mod desk;
 mod gate;
 mod hosts;
@@ -12,6 +13,7 @@ mod signal;
 mod site;
 mod slots;
 
+pub use asked::OtherRequest;
 pub use desk::Desk;
 pub use hosts::Hosts;
 pub use listener::Listener;

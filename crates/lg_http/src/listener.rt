@@ -3,6 +3,10 @@
 //! Defined in: this file.
 //! Tested in: `lg_http_tests/src/serving.rt`.
 
+ghost use Rattle.std.specs.Prelude.{◌≡◌, ◌↔◌, IsTrue};
+ghost use Rattle.std.specs.Net.Addr.{MatchIp, IsLoopbackV4, IsLoopbackV6};
+ghost use Rattle.std.specs.Net.Socket.{socket_ip};
+
 use mio::net::{TcpListener, TcpStream};
 use mio::{Interest, Registry, Token};
 use std::io;
@@ -13,6 +17,26 @@ use std::net::{Net, SocketAddr};
 #[derive(Drop)]
 pub struct Listener {
     listener: TcpListener,
+}
+
+/// A client that came.
+#[derive(Drop)]
+pub(crate) struct Client {
+    pub(crate) stream: TcpStream,
+    /// Whether its address is loopback: in 127.0.0.0/8 or ::1.
+    pub(crate) is_loopback: bool,
+}
+
+impl Client {
+    /// The client with this address at the other end of a connection.
+    fn new(stream: TcpStream, address: SocketAddr) -> Client
+        ensures { IsTrue result.is_loopback ↔ MatchIp (socket_ip address) IsLoopbackV4 IsLoopbackV6 }
+    {
+        Client {
+            stream,
+            is_loopback: address.ip().is_loopback(),
+        }
+    }
 }
 
 impl Listener {
@@ -39,9 +63,9 @@ impl Listener {
     }
 
     /// Takes a connection. The kind of the error is `WouldBlock` if none waits.
-    pub(crate) fn accept(&self) -> Result<TcpStream, ErrorKind> {
+    pub(crate) fn accept(&self) -> Result<Client, ErrorKind> {
         match self.listener.accept() {
-            Ok((stream, _)) => Ok(stream),
+            Ok((stream, address)) => Ok(Client::new(stream, address)),
             Err(e) => Err(e.kind()),
         }
     }

@@ -11,6 +11,7 @@ ghost use Rattle.lg_http.specs.Meaning.Peers.{calls_of, GoesOn, Answers, IsCurre
 
 use crate::desk::Desk;
 use crate::gate::MAX_HEAD;
+use crate::listener::Client;
 use crate::own::OwnRefusal;
 use crate::site::Site;
 use bytes::BytesMut;
@@ -112,6 +113,8 @@ pub(crate) struct Turn {
     pub(crate) version: u64,
     /// How many long polls of other connections wait.
     pub(crate) others: usize,
+    /// Whether the connection's client is on loopback.
+    pub(crate) is_loopback: bool,
 }
 
 /// A refusal of the server's own, and how many bytes of its text were sent.
@@ -126,6 +129,8 @@ struct OwnText {
 #[derive(Drop)]
 pub(crate) struct Peer {
     stream: TcpStream,
+    /// Whether the client's address is loopback.
+    is_loopback: bool,
     http: Connection,
     /// What the client sent, and `http` wasn't given yet.
     held: BytesMut,
@@ -161,12 +166,18 @@ fn config() -> Config {
 
 impl Peer {
     /// A connection that begins at this moment. Allocates nothing. The keys are those of the maps of header fields.
-    pub(crate) fn new(alloc: Global, keys: RandomState, stream: TcpStream, at: Moment) -> Peer
+    pub(crate) fn new(alloc: Global, keys: RandomState, client: Client, at: Moment) -> Peer
         ensures new { IsNewPeer result }
+        ensures loopback { result.is_loopback ≡ client.is_loopback }
         ensures time { result.until ≡ at + LIMIT_MS }
     {
+        let Client {
+            stream,
+            is_loopback,
+        } = client;
         Peer {
             stream,
+            is_loopback,
             http: Connection::new(alloc, keys, config()),
             held: BytesMut::new(alloc),
             own: None,
@@ -204,6 +215,13 @@ impl Peer {
         if event.is_writable() || event.is_write_closed() || event.is_error() {
             self.can_write = true;
         }
+    }
+
+    /// Whether its client is on loopback.
+    pub(crate) fn is_loopback(&self) -> bool
+        ensures { result ≡ self.now.is_loopback }
+    {
+        self.is_loopback
     }
 
     /// Whether it is a long poll that waits.
@@ -255,8 +273,8 @@ impl Peer {
         ensures parks { IsAwake self.old.phase → MAX_PARKED ≤ turn.now.others → result ≢ Left.Gone
             → IsAwake self.new.phase }
         ensures time { result ≢ Left.Gone → KeepsTime turn.now.at self.old self.new }
-        ensures answers { Answers (RepliesAmong S.answers S.version S.waits desk.old.hosts turn.now.others)
-            desk.old.site self.old self.new }
+        ensures answers { Answers (RepliesAmong S.answers S.acts S.version S.waits desk.old.hosts turn.now.others
+            turn.now.is_loopback) desk.old.site self.old self.new }
         ensures site { desk.new.site ≡ desk.old.site }
         ensures hosts { desk.new.hosts ≡ desk.old.hosts }
         ensures bounded { IsBounded self.old → IsBounded self.new }
@@ -291,8 +309,8 @@ impl Peer {
             → IsAwake self.new.phase }
         ensures time { result ≢ Step.Gone → KeepsTime turn.now.at self.old self.new }
         ensures keeps { ¬ (IsDraining self.old.phase) → GoesOn self.old self.new }
-        ensures answers { Answers (RepliesAmong S.answers S.version S.waits desk.old.hosts turn.now.others)
-            desk.old.site self.old self.new }
+        ensures answers { Answers (RepliesAmong S.answers S.acts S.version S.waits desk.old.hosts turn.now.others
+            turn.now.is_loopback) desk.old.site self.old self.new }
         ensures site { desk.new.site ≡ desk.old.site }
         ensures hosts { desk.new.hosts ≡ desk.old.hosts }
         ensures bounded { IsBounded self.old → IsBounded self.new }

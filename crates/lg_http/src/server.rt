@@ -9,14 +9,13 @@ ghost use Rattle.lg_http.specs.Meaning.Peers.{IsCurrent};
 ghost use Rattle.lg_http.specs.Meaning.Slots.{AreFree, AreSlots, AreServed, IsTold, InSlot, slots_of, ended_of};
 
 use crate::desk::Desk;
-use crate::listener::Listener;
+use crate::listener::{Client, Listener};
 use crate::peer::Peer;
 use crate::signal::{Signal, Told};
 use crate::site::Site;
 use crate::slots::{MAX_PEERS, Slots};
 use lg_clock::Clock;
 use lg_timing::Moment;
-use mio::net::TcpStream;
 use mio::{Events, Poll, Token};
 use std::alloc::{AllocError, Global};
 use std::hash::RandomState;
@@ -104,8 +103,8 @@ fn watch(rt: &impl Net, listener: &mut Listener) -> io::Result<(Poll, Signal)> {
 /// Notes which sockets are ready. Gives whether a client may be waiting.
 fn note_events<S: Site>(events: &Events, slots: &mut Slots) -> bool
     ensures { (hosts : Hosts) (site : S)
-        → AreSlots (Replies S.answers S.version S.waits hosts) S.later site slots.old.slots.items
-        → AreServed (Replies S.answers S.version S.waits hosts) S.later site slots.old slots.new }
+        → AreSlots (Replies S.answers S.acts S.version S.waits hosts) S.later site slots.old.slots.items
+        → AreServed (Replies S.answers S.acts S.version S.waits hosts) S.later site slots.old slots.new }
 {
     let mut can_accept = false;
     for event in events.iter() {
@@ -157,11 +156,11 @@ impl Server {
         signal: &Signal,
     ) -> (ServerEnd, ServerCounts)
         ensures free { AreFree (slots_of self.old)
-            → AreServed (Replies S.answers S.version S.waits desk.old.hosts) S.later desk.new.site
+            → AreServed (Replies S.answers S.acts S.version S.waits desk.old.hosts) S.later desk.new.site
             self.old.slots self.new.slots }
-        ensures served { AreSlots (Replies S.answers S.version S.waits desk.old.hosts) S.later desk.old.site
+        ensures served { AreSlots (Replies S.answers S.acts S.version S.waits desk.old.hosts) S.later desk.old.site
             (slots_of self.old)
-            → AreServed (Replies S.answers S.version S.waits desk.old.hosts) S.later desk.new.site
+            → AreServed (Replies S.answers S.acts S.version S.waits desk.old.hosts) S.later desk.new.site
             self.old.slots self.new.slots }
         ensures goes_on { S.later desk.old.site desk.new.site }
         ensures hosts { desk.new.hosts ≡ desk.old.hosts }
@@ -192,9 +191,9 @@ impl Server {
         signal: &Signal,
     ) -> Result<(), ErrorKind>
         ensures turns { self.new.counts.turns ≡ min (self.old.counts.turns + 1) u64.MAX }
-        ensures served { AreSlots (Replies S.answers S.version S.waits desk.old.hosts) S.later desk.old.site
+        ensures served { AreSlots (Replies S.answers S.acts S.version S.waits desk.old.hosts) S.later desk.old.site
             (slots_of self.old)
-            → AreServed (Replies S.answers S.version S.waits desk.old.hosts) S.later desk.new.site
+            → AreServed (Replies S.answers S.acts S.version S.waits desk.old.hosts) S.later desk.new.site
             self.old.slots self.new.slots }
         ensures goes_on { S.later desk.old.site desk.new.site }
         ensures hosts { desk.new.hosts ≡ desk.old.hosts }
@@ -217,9 +216,9 @@ impl Server {
         // It waits only if no long poll waits for a version that came.
         ensures current { result ≢ 0 → All (InSlot (IsCurrent at (S.version desk.new.site))) (slots_of self.new) }
         ensures turns { self.new.counts.turns ≡ self.old.counts.turns }
-        ensures served { AreSlots (Replies S.answers S.version S.waits desk.old.hosts) S.later desk.old.site
+        ensures served { AreSlots (Replies S.answers S.acts S.version S.waits desk.old.hosts) S.later desk.old.site
             (slots_of self.old)
-            → AreServed (Replies S.answers S.version S.waits desk.old.hosts) S.later desk.new.site
+            → AreServed (Replies S.answers S.acts S.version S.waits desk.old.hosts) S.later desk.new.site
             self.old.slots self.new.slots }
         ensures goes_on { S.later desk.old.site desk.new.site }
         ensures hosts { desk.new.hosts ≡ desk.old.hosts }
@@ -249,8 +248,8 @@ impl Server {
     /// Takes some of the connections that wait.
     fn accept_some<S: Site>(&mut self, at: Moment)
         ensures served { (hosts : Hosts) (site : S)
-            → AreSlots (Replies S.answers S.version S.waits hosts) S.later site (slots_of self.old)
-            → AreServed (Replies S.answers S.version S.waits hosts) S.later site self.old.slots self.new.slots }
+            → AreSlots (Replies S.answers S.acts S.version S.waits hosts) S.later site (slots_of self.old)
+            → AreServed (Replies S.answers S.acts S.version S.waits hosts) S.later site self.old.slots self.new.slots }
         ensures turns { self.new.counts.turns ≡ self.old.counts.turns }
     {
         for _ in 0..ACCEPTS {
@@ -258,7 +257,7 @@ impl Server {
                 break;
             }
             match self.listener.accept() {
-                Ok(stream) => self.admit::<S>(stream, at),
+                Ok(client) => self.admit::<S>(client, at),
                 Err(kind) => self.not_accepted(kind, at),
             }
         }
@@ -280,17 +279,17 @@ impl Server {
     }
 
     /// Gives a connection a slot, or closes it if there is none.
-    fn admit<S: Site>(&mut self, stream: TcpStream, at: Moment)
+    fn admit<S: Site>(&mut self, client: Client, at: Moment)
         ensures served { (hosts : Hosts) (site : S)
-            → AreSlots (Replies S.answers S.version S.waits hosts) S.later site (slots_of self.old)
-            → AreServed (Replies S.answers S.version S.waits hosts) S.later site self.old.slots self.new.slots }
+            → AreSlots (Replies S.answers S.acts S.version S.waits hosts) S.later site (slots_of self.old)
+            → AreServed (Replies S.answers S.acts S.version S.waits hosts) S.later site self.old.slots self.new.slots }
         ensures turns { self.new.counts.turns ≡ self.old.counts.turns }
     {
         let Some(number) = self.slots.place_for(at) else {
             self.counts.turned_away = self.counts.turned_away.wrapping_add(1);
             return;
         };
-        let mut peer = Peer::new(self.alloc, self.keys, stream, at);
+        let mut peer = Peer::new(self.alloc, self.keys, client, at);
         if peer.register(self.poll.registry(), Token(number)) {
             self.slots.put::<S>(number, peer, at);
             self.counts.accepted = self.counts.accepted.wrapping_add(1);

@@ -5,8 +5,10 @@
 ghost use Rattle.std.specs.Prelude.{◌≡◌, ℕ, List, Option, IfOk, option_map};
 ghost use Rattle.lg_http.specs.declared.site.HttpAnswer.{HttpAnswer};
 ghost use Rattle.lg_http.specs.declared.site.Wait.{Wait};
+ghost use Rattle.lg_http.specs.Meaning.Asked.{AskedValue, asked_value};
 ghost use Rattle.lg_http.specs.Meaning.Answers.{status_number, kind_words, would_wait, IsSiteOrder};
 
+use crate::asked::OtherRequest;
 use std::alloc::{AllocError, Global};
 
 /// The status of an answer (RFC 9110, section 15).
@@ -16,8 +18,12 @@ pub enum HttpStatus {
     Fine,
     /// 400: the path or the query isn't of the form that the resource takes.
     BadRequest,
+    /// 403: the client may not ask for this.
+    Forbidden,
     /// 404: there is no such resource.
     NotFound,
+    /// 405: the resource takes POST alone. The answer has `allow: POST`.
+    PostOnly,
     /// 503: the resource is there, and isn't well now.
     Unavailable,
 }
@@ -30,7 +36,9 @@ impl HttpStatus {
         match self {
             HttpStatus::Fine => 200,
             HttpStatus::BadRequest => 400,
+            HttpStatus::Forbidden => 403,
             HttpStatus::NotFound => 404,
+            HttpStatus::PostOnly => 405,
             HttpStatus::Unavailable => 503,
         }
     }
@@ -90,6 +98,9 @@ pub trait Site {
     // What a state answers to a path and a query.
     ghost answers: { Self → List ℕ → Option (List ℕ) → HttpAnswer → Type 0 };
 
+    // What a state answers to a request whose method is neither GET nor HEAD, if it has an answer.
+    ghost acts: { Self → AskedValue → Option HttpAnswer → Type 0 };
+
     // The version of what a state shows.
     ghost version: { Self → ℕ };
 
@@ -118,6 +129,11 @@ pub trait Site {
         query: Option<&[u8]>,
     ) -> Result<HttpAnswer, AllocError>
         ensures { IfOk result (λ a. answers self.now path.now (option_map (λ q. q.now) query.entry) a) };
+
+    /// The answer to a request whose method is neither GET nor HEAD. None if the site has none: the client gets 405 and
+    /// `allow: GET, HEAD`. The error is refused memory alone, and closes the client's connection.
+    fn act(&self, alloc: Global, asked: &OtherRequest<'_>) -> Result<Option<HttpAnswer>, AllocError>
+        ensures { IfOk result (λ a. acts self.now (asked_value asked.now) a) };
 
     // A state counts as later than itself, and what is later than a later one is later.
     ghost order: { IsSiteOrder later };

@@ -6,7 +6,7 @@ ghost use Rattle.std.specs.Prelude.{◌≡◌, ◌≤◌, ◌<◌, ◌+◌, ◌-
 ghost use Rattle.std.specs.Prelude.{IfOk, IfSome, IsSome, Some, None};
 ghost use Rattle.lg_http.specs.declared.hosts.Hosts.{Hosts};
 ghost use Rattle.lg_http.specs.Meaning.Answers.{RepliesAmong, Replies};
-ghost use Rattle.lg_http.specs.Meaning.Parked.{parked_count, parked_in};
+ghost use Rattle.lg_http.specs.Meaning.Parked.{loopback_in, parked_count, parked_in};
 ghost use Rattle.lg_http.specs.Meaning.Peers.{Answers, IsCurrent, IsBounded, IsNewPeer};
 ghost use Rattle.lg_http.specs.Meaning.Phases.{IsAwake};
 ghost use Rattle.lg_http.specs.Meaning.Slots.{InSlot, IsAnsweredSlot, HadTurn, AreFree, AreSlots, AreServed, AddsEnded};
@@ -56,13 +56,23 @@ fn parked_of(slot: &Option<Peer>) -> usize
     }
 }
 
+/// Whether a slot's client is on loopback. A free slot has none.
+fn loopback_of(slot: &Option<Peer>) -> bool
+    ensures { result ≡ loopback_in slot.now }
+{
+    match slot {
+        Some(peer) => peer.is_loopback(),
+        None => false,
+    }
+}
+
 /// Lets a connection do what it can. Gives how long it may wait then, in milliseconds, or nothing if it is over.
 fn run_peer<S: Site>(peer: &mut Peer, desk: &mut Desk<S>, turn: &Turn) -> Option<u64>
     requires { turn.now.version ≡ S.version desk.old.site }
     ensures current { IsSome result → IsCurrent turn.now.at turn.now.version peer.new }
     ensures parks { IsAwake peer.old.phase → MAX_PARKED ≤ turn.now.others → IsSome result → IsAwake peer.new.phase }
-    ensures answers { Answers (RepliesAmong S.answers S.version S.waits desk.old.hosts turn.now.others)
-        desk.old.site peer.old peer.new }
+    ensures answers { Answers (RepliesAmong S.answers S.acts S.version S.waits desk.old.hosts turn.now.others
+        turn.now.is_loopback) desk.old.site peer.old peer.new }
     ensures site { desk.new.site ≡ desk.old.site }
     ensures hosts { desk.new.hosts ≡ desk.old.hosts }
     ensures bounded { IsBounded peer.old → IsBounded peer.new }
@@ -106,8 +116,8 @@ fn run_slot<S: Site>(
     ensures current { InSlot (IsCurrent turn.now.at turn.now.version) slot.new }
     ensures parks { MAX_PARKED ≤ turn.now.others → parked_in slot.new ≤ parked_in slot.old }
     ensures bounded { InSlot IsBounded slot.old → InSlot IsBounded slot.new }
-    ensures had { HadTurn (RepliesAmong S.answers S.version S.waits desk.old.hosts turn.now.others)
-        desk.old.site slot.old slot.new ended.old.items ended.new.items }
+    ensures had { HadTurn (RepliesAmong S.answers S.acts S.version S.waits desk.old.hosts turn.now.others
+        turn.now.is_loopback) desk.old.site slot.old slot.new ended.old.items ended.new.items }
     ensures site { desk.new.site ≡ desk.old.site }
     ensures hosts { desk.new.hosts ≡ desk.old.hosts }
 {
@@ -137,8 +147,10 @@ fn run_next<S: Site>(
     ensures count { result.parked + parked_in slot.old ≡ rest.parked + parked_in slot.new }
     ensures few { rest.parked ≤ MAX_PARKED → result.parked ≤ MAX_PARKED }
     ensures bounded { InSlot IsBounded slot.old → InSlot IsBounded slot.new }
-    // Whether a long poll is one too many is by those that wait in the other slots.
-    ensures had { HadTurn (RepliesAmong S.answers S.version S.waits desk.old.hosts (rest.parked - parked_in slot.old))
+    // Whether a long poll is one too many is by those that wait in the other slots, and whether the client is on
+    // loopback by the slot.
+    ensures had { HadTurn (RepliesAmong S.answers S.acts S.version S.waits desk.old.hosts
+        (rest.parked - parked_in slot.old) (loopback_in slot.old))
         desk.old.site slot.old slot.new ended.old.items ended.new.items }
     ensures site { desk.new.site ≡ desk.old.site }
     ensures hosts { desk.new.hosts ≡ desk.old.hosts }
@@ -148,6 +160,7 @@ fn run_next<S: Site>(
         at,
         version,
         others,
+        is_loopback: loopback_of(slot),
     };
     let wait_ms = run_slot(slot, ended, desk, &turn);
     Rest {
@@ -170,9 +183,10 @@ fn run_all<S: Site>(
     requires version { version ≡ S.version desk.old.site }
     ensures current { All (InSlot (IsCurrent at version)) slots.new.items }
     ensures parked { result.parked ≡ parked_count slots.new.items }
-    ensures served { AreSlots (Replies S.answers S.version S.waits desk.old.hosts) S.later desk.old.site slots.old.items
-        → AreSlots (Replies S.answers S.version S.waits desk.old.hosts) S.later desk.old.site slots.new.items
-        × AddsEnded (Replies S.answers S.version S.waits desk.old.hosts) S.later desk.old.site
+    ensures served { AreSlots (Replies S.answers S.acts S.version S.waits desk.old.hosts) S.later desk.old.site
+        slots.old.items
+        → AreSlots (Replies S.answers S.acts S.version S.waits desk.old.hosts) S.later desk.old.site slots.new.items
+        × AddsEnded (Replies S.answers S.acts S.version S.waits desk.old.hosts) S.later desk.old.site
         ended.old.items ended.new.items }
     ensures site { desk.new.site ≡ desk.old.site }
     ensures hosts { desk.new.hosts ≡ desk.old.hosts }
@@ -189,8 +203,8 @@ fn note_slot<S: Site>(slot: &mut Option<Peer>, event: &Event)
     ensures parked { parked_in slot.new ≡ parked_in slot.old }
     ensures bounded { InSlot IsBounded slot.old → InSlot IsBounded slot.new }
     ensures answered { (hosts : Hosts) (site : S)
-        → IsAnsweredSlot (Replies S.answers S.version S.waits hosts) S.later site slot.old
-        → IsAnsweredSlot (Replies S.answers S.version S.waits hosts) S.later site slot.new }
+        → IsAnsweredSlot (Replies S.answers S.acts S.version S.waits hosts) S.later site slot.old
+        → IsAnsweredSlot (Replies S.answers S.acts S.version S.waits hosts) S.later site slot.new }
 {
     if let Some(peer) = slot {
         peer.note(event);
@@ -274,9 +288,10 @@ impl Slots {
         requires { version ≡ S.version desk.old.site }
         ensures current { All (InSlot (IsCurrent at version)) self.new.slots.items }
         ensures parked { result.parked ≡ parked_count self.new.slots.items }
-        ensures served { AreSlots (Replies S.answers S.version S.waits desk.old.hosts) S.later desk.old.site
+        ensures served { AreSlots (Replies S.answers S.acts S.version S.waits desk.old.hosts) S.later desk.old.site
             self.old.slots.items
-            → AreServed (Replies S.answers S.version S.waits desk.old.hosts) S.later desk.new.site self.old self.new }
+            → AreServed (Replies S.answers S.acts S.version S.waits desk.old.hosts) S.later desk.new.site
+            self.old self.new }
         ensures site { desk.new.site ≡ desk.old.site }
         ensures hosts { desk.new.hosts ≡ desk.old.hosts }
     {
@@ -290,8 +305,8 @@ impl Slots {
     /// Notes what the system tells of a slot's socket. Other numbers than those of slots are passed over.
     pub(crate) fn note<S: Site>(&mut self, number: usize, event: &Event)
         ensures { (hosts : Hosts) (site : S)
-            → AreSlots (Replies S.answers S.version S.waits hosts) S.later site self.old.slots.items
-            → AreServed (Replies S.answers S.version S.waits hosts) S.later site self.old self.new }
+            → AreSlots (Replies S.answers S.acts S.version S.waits hosts) S.later site self.old.slots.items
+            → AreServed (Replies S.answers S.acts S.version S.waits hosts) S.later site self.old self.new }
     {
         if number < self.slots.len() {
             note_slot::<S>(&mut self.slots[number], event);
@@ -314,8 +329,8 @@ impl Slots {
         requires room { number < length self.old.slots.items }
         requires fresh { IsNewPeer peer }
         ensures served { (hosts : Hosts) (site : S)
-            → AreSlots (Replies S.answers S.version S.waits hosts) S.later site self.old.slots.items
-            → AreServed (Replies S.answers S.version S.waits hosts) S.later site self.old self.new }
+            → AreSlots (Replies S.answers S.acts S.version S.waits hosts) S.later site self.old.slots.items
+            → AreServed (Replies S.answers S.acts S.version S.waits hosts) S.later site self.old self.new }
         ensures noted { self.new.ended.items
             ≡ noted_from self.old.ended.items at (get_or self.old.slots.items number None) }
     {

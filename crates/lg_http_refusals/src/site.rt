@@ -1,7 +1,7 @@
 //! What the server shows: one page.
 ghost use Rattle.std.specs.Prelude.{⊤};
 
-use lg_http::{HttpAnswer, HttpStatus, Kind, Site, Wait};
+use lg_http::{HttpAnswer, HttpStatus, Kind, OtherRequest, Site, Wait};
 use std::alloc::{AllocError, Global};
 
 /// It has a page, which never changes.
@@ -10,6 +10,8 @@ pub(crate) struct Page;
 
 impl Site for Page {
     ghost answers = { λ site path query answer. ⊤ };
+
+    ghost acts = { λ site asked answer. ⊤ };
 
     ghost version = { λ site. 0 };
 
@@ -38,5 +40,9 @@ impl Site for Page {
             kind: Kind::Html,
             body: Vec::from_slice(alloc, b"<p>page</p>")?,
         })
+    }
+
+    fn act(&self, _alloc: Global, _asked: &OtherRequest<'_>) -> Result<Option<HttpAnswer>, AllocError> {
+        Ok(None)
     }
 }

@@ -1,7 +1,7 @@
 //! What the server of the tests shows: a number.
 ghost use Rattle.std.specs.Prelude.{⊤};
 
-use lg_http::{HttpAnswer, HttpStatus, Kind, Site, Wait};
+use lg_http::{HttpAnswer, HttpStatus, Kind, OtherRequest, Site, Wait};
 use std::alloc::{AllocError, Global};
 use std::sync::atomic::AtomicU64;
 use std::sync::atomic::Ordering::SeqCst;
@@ -47,8 +47,20 @@ fn large(alloc: Global) -> Result<HttpAnswer, AllocError> {
     })
 }
 
+/// The answer at the path that takes POST alone, to another method.
+fn post_only(alloc: Global) -> Result<HttpAnswer, AllocError> {
+    answer_of(
+        alloc,
+        HttpStatus::PostOnly,
+        Kind::Json,
+        b"{\"error\":\"post only\"}",
+    )
+}
+
 impl<'a> Site for Board<'a> {
     ghost answers = { λ site path query answer. ⊤ };
+
+    ghost acts = { λ site asked answer. ⊤ };
 
     ghost version = { λ site. site.seen };
 
@@ -99,6 +111,7 @@ impl<'a> Site for Board<'a> {
                 Kind::Json,
                 b"{\"ill\":true}",
             ),
+            b"/act" => post_only(alloc),
             b"/next" if self.seen == 0 => answer_of(
                 alloc,
                 HttpStatus::Fine,
@@ -113,5 +126,26 @@ impl<'a> Site for Board<'a> {
                 b"{\"error\":\"unknown\"}",
             ),
         }
+    }
+
+    fn act(
+        &self,
+        alloc: Global,
+        asked: &OtherRequest<'_>,
+    ) -> Result<Option<HttpAnswer>, AllocError> {
+        if asked.path != b"/act".as_slice() {
+            return Ok(None);
+        }
+        if asked.method != "POST" {
+            return Ok(Some(post_only(alloc)?));
+        }
+        let is_marked = asked.field("x-mark") == Some(b"here".as_slice());
+        let status = if is_marked && asked.is_loopback {
+            HttpStatus::Fine
+        } else {
+            HttpStatus::Forbidden
+        };
+        let answer = answer_of(alloc, status, Kind::Json, b"{\"acted\":0}")?;
+        Ok(Some(answer))
     }
 }

@@ -1,5 +1,6 @@
 //! What a client reads: answers, refusals, pipelined answers in order, and answers to long polls.
 
+use super::acting::ACTS;
 use super::board::WAIT_MS;
 use super::client::{Text, answer_to, is_made_of, passed_ms, sent, told};
 use super::playing::{Place, Play, Wrong, expect, played};
@@ -10,9 +11,9 @@ use std::time::{Duration, Instant};
 use std::{rt, thread};
 
 /// What is sent on a connection, and texts that come for it, in this order. Nothing comes behind the last.
-struct Row {
-    sent: Text,
-    parts: &'static [&'static [u8]],
+pub(crate) struct Row {
+    pub(crate) sent: Text,
+    pub(crate) parts: &'static [&'static [u8]],
 }
 
 const BAD_REQUEST: &[&[u8]] = &[
@@ -320,6 +321,7 @@ pub(crate) fn ask<R: Net<Stream = TcpStream> + rt::Clock>(
     place: &Place<'_>,
 ) -> Result<(), Wrong> {
     are_answered(rt, place, ANSWERS, "an answer")?;
+    are_answered(rt, place, ACTS, "a request for POST")?;
     are_answered(rt, place, PIPELINED, "pipelined requests")?;
     are_refused(rt, place)?;
     are_answered(rt, place, REFUSED, "a refusal")?;
@@ -330,7 +332,7 @@ pub(crate) fn ask<R: Net<Stream = TcpStream> + rt::Clock>(
 #[test]
 fn answers_what_it_should(rt: HostRuntime) {
     let played = played(&rt, rt.alloc(), Play::Rows);
-    let rows = ANSWERS.len() + PIPELINED.len() + DAMAGED.len() + REFUSED.len();
+    let rows = ANSWERS.len() + ACTS.len() + PIPELINED.len() + DAMAGED.len() + REFUSED.len();
     let met = played.as_ref().is_ok_and(|(end, counts, seen)| {
         *end == ServerEnd::Stopped
             && counts.accepted == rows as u64 + 2

@@ -15,9 +15,11 @@ use Rattle.lg_http.specs.declared.site.HttpAnswer.{HttpAnswer}
 use Rattle.lg_http.specs.declared.site.Kind.{Kind}
 use Rattle.lg_http.specs.declared.site.Kind.TheVariants.{Json, Html, Metrics}
 use Rattle.lg_http.specs.declared.site.HttpStatus.{HttpStatus}
-use Rattle.lg_http.specs.declared.site.HttpStatus.TheVariants.{Fine, BadRequest, NotFound, Unavailable}
+use Rattle.lg_http.specs.declared.site.HttpStatus.TheVariants.{Fine, BadRequest, Forbidden, NotFound}
+use Rattle.lg_http.specs.declared.site.HttpStatus.TheVariants.{PostOnly, Unavailable}
 use Rattle.lg_http.specs.declared.site.Wait.{Wait}
 use Rattle.lg_http.specs.declared.slots.TheConstants.{MAX_PARKED}
+use Rattle.lg_http.specs.Meaning.Asked.{AskedValue, asked_from}
 use Rattle.lg_http.specs.Meaning.Fronts.{WaitRule}
 use Rattle.lg_http.specs.Meaning.Hosts.{AnswersTo}
 use Rattle.lg_http.specs.Meaning.Parked.{Slot, parked_count}
@@ -26,7 +28,9 @@ use Rattle.lg_http.specs.Meaning.Parked.{Slot, parked_count}
 abbrev pub status_number : HttpStatus → ℕ
 status_number Fine = 200
 status_number BadRequest = 400
+status_number Forbidden = 403
 status_number NotFound = 404
+status_number PostOnly = 405
 status_number Unavailable = 503
 
 -- the value of `content-type`
@@ -46,6 +50,14 @@ closing false = []
 abbrev pub allowed : Header
 allowed = (codes "allow", codes "GET, HEAD")
 
+abbrev pub post_allowed : Header
+post_allowed = (codes "allow", codes "POST")
+
+-- what the head of a site's answer says of it: its media type, and with 405 which method there is
+abbrev pub answer_fields : HttpStatus → Kind → List Header
+answer_fields PostOnly kind = post_allowed ∷ content_type kind ∷ []
+answer_fields _ kind = content_type kind ∷ []
+
 abbrev pub retry : Header
 retry = (codes "retry-after", codes "1")
 
@@ -64,6 +76,11 @@ misdirected_body = codes "{\"error\":\"misdirected request\"}"
 -- what a site answers: its state, a path, a query and the answer
 abbrev pub SiteAnswers : Type 0 → Type 1
 SiteAnswers S = S → List ℕ → Option (List ℕ) → HttpAnswer → Type 0
+
+-- What a site answers to a request whose method is neither GET nor HEAD: its state, what it sees of the request, and
+-- the answer, if it has one.
+abbrev pub SiteActs : Type 0 → Type 1
+SiteActs S = S → AskedValue → Option HttpAnswer → Type 0
 
 -- the version of what a state of a site shows
 abbrev pub SiteVersion : Type 0 → Type 0
@@ -104,16 +121,28 @@ pub record IsTooMany (waits : WaitRule) (version others : ℕ) (request : Reques
 abbrev pub IsOfSite : {S : Type 0} → SiteAnswers S → Bool → S → Request (List ℕ) → Response → Type 0
 IsOfSite answers last site request response =
     (a : HttpAnswer) × answers site (uri_path (head_of request).uri) (uri_query (head_of request).uri) a
-    × IsResponse (status_number a.status) (closing last ++ content_type a.kind ∷ []) a.body.items response
+    × IsResponse (status_number a.status) (closing last ++ answer_fields a.status a.kind) a.body.items response
 
--- How a request is answered, if it is a long poll too many, and if not. The answer says that the connection is closed
--- behind it exactly if it is one too many, or if a body follows the request's head.
-pub record IsReply {S : Type 0} (answers : SiteAnswers S) (hosts : Hosts) (full : Bool) (site : S)
-    (request : Request (List ℕ)) (response : Response) : Type 0 where
+-- the response to a method that is neither GET nor HEAD: the answer that the site has, or 405 if it has none
+abbrev pub IsActReply : Option HttpAnswer → Bool → Response → Type 0
+IsActReply None last response =
+    IsResponse 405 (closing last ++ allowed ∷ content_type Json ∷ []) method_body response
+IsActReply (Some a) last response =
+    IsResponse (status_number a.status) (closing last ++ answer_fields a.status a.kind) a.body.items response
+
+abbrev pub IsActOfSite : {S : Type 0} → SiteActs S → Bool → Bool → S → Request (List ℕ) → Response → Type 0
+IsActOfSite acts loopback last site request response =
+    (a : Option HttpAnswer) × acts site (asked_from loopback request) a × IsActReply a last response
+
+-- How a request is answered, by whether it is a long poll too many, and by whether its client is on loopback. The
+-- answer says that the connection is closed behind it exactly if it is one too many, or if a body follows the request's
+-- head.
+pub record IsReply {S : Type 0} (answers : SiteAnswers S) (acts : SiteActs S) (hosts : Hosts) (loopback full : Bool)
+    (site : S) (request : Request (List ℕ)) (response : Response) : Type 0 where
   pub misdirected : ¬ (AnswersTo hosts (field_of (codes "host") request))
       → IsResponse 421 (closing (full || has_body request) ++ content_type Json ∷ []) misdirected_body response
   pub other : AnswersTo hosts (field_of (codes "host") request) → ¬ (IsServedMethod (head_of request).method)
-      → IsResponse 405 (closing (full || has_body request) ++ allowed ∷ content_type Json ∷ []) method_body response
+      → IsActOfSite acts loopback (full || has_body request) site request response
   pub crowded : AnswersTo hosts (field_of (codes "host") request) → IsServedMethod (head_of request).method
       → IsTrue full
       → IsResponse 503 (closing (full || has_body request) ++ retry ∷ content_type Json ∷ []) crowded_body response
@@ -124,16 +153,19 @@ pub record IsReply {S : Type 0} (answers : SiteAnswers S) (hosts : Hosts) (full 
 abbrev pub SiteReplies : Type 0 → Type 1
 SiteReplies S = S → Call → Type 0
 
--- the reply to a request, while so many other long polls wait
-abbrev pub RepliesAmong : {S : Type 0} → SiteAnswers S → SiteVersion S → WaitRule → Hosts → ℕ → SiteReplies S
-RepliesAmong answers version waits hosts others site call =
+-- the reply to a request, while so many other long polls wait, to a client that is on loopback or isn't
+abbrev pub RepliesAmong :
+    {S : Type 0} → SiteAnswers S → SiteActs S → SiteVersion S → WaitRule → Hosts → ℕ → Bool → SiteReplies S
+RepliesAmong answers acts version waits hosts others loopback site call =
     (full : Bool) × IsTooMany waits (version site) others call.0 full
-    × IsReply answers hosts full site call.0 call.1
+    × IsReply answers acts hosts loopback full site call.0 call.1
 
--- the reply to a request: there are the other slots of that moment, and so many long polls wait in them
-abbrev pub Replies : {S : Type 0} → SiteAnswers S → SiteVersion S → WaitRule → Hosts → SiteReplies S
-Replies answers version waits hosts site call =
-    (others : List Slot) × RepliesAmong answers version waits hosts (parked_count others) site call
+-- The reply to a request: there are the other slots of that moment, and so many long polls wait in them. The client is
+-- on loopback or isn't.
+abbrev pub Replies : {S : Type 0} → SiteAnswers S → SiteActs S → SiteVersion S → WaitRule → Hosts → SiteReplies S
+Replies answers acts version waits hosts site call =
+    (others : List Slot) × (loopback : Bool)
+    × RepliesAmong answers acts version waits hosts (parked_count others) loopback site call
 
 -- of two states of a site, whether the second is the first or a later one
 abbrev pub SiteOrder : Type 0 → Type 1

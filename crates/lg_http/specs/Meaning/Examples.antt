@@ -1,5 +1,6 @@
 -- Worked rows.
 use Rattle.std.specs.Prelude.{◌≡◌, ℕ, [], ◌∷◌, ◌++◌, Some, None, codes, refl, true, false, length}
+use Rattle.http_header.specs.FieldValue.{plain_value}
 use Rattle.http1.specs.declared.error.ReadError.TheVariants.{UriTooLong, TooLarge, Host}
 use Rattle.http_server.specs.declared.state.State.TheVariants.{Open, Closing}
 use Rattle.http_server.specs.declared.state.Reason.TheVariants.{Asked, Refused}
@@ -7,10 +8,13 @@ use Rattle.http_server.specs.declared.state.Refusal.TheVariants.{Unreadable, Bod
 use Rattle.lg_text.specs.Meaning.Cutting.{before, behind}
 use Rattle.lg_http.specs.declared.own.OwnRefusal.TheVariants as Own
 use Rattle.lg_http.specs.declared.peer.Phase.TheVariants.{Reading, Parked, Answering, Draining}
+use Rattle.lg_http.specs.declared.site.HttpStatus.TheVariants.{Forbidden, PostOnly}
 use Rattle.lg_http.specs.declared.site.Kind.TheVariants.{Json}
-use Rattle.lg_http.specs.Meaning.Answers.{closing, content_type}
+use Rattle.lg_http.specs.Meaning.Answers.{answer_fields, closing, content_type}
+use Rattle.lg_http.specs.Meaning.Asked.{first_value}
 use Rattle.lg_http.specs.Meaning.Fronts.{query_mark}
 use Rattle.lg_http.specs.Meaning.Own.{own_text, own_body, own_in}
+use Rattle.lg_http.specs.Meaning.Parked.{loopback_in}
 use Rattle.lg_http.specs.Meaning.Phases.{MayBecome, time_limit, may_yield}
 
 path-of-target : before query_mark (codes "/v1/changes?after=1?2") ≡ codes "/v1/changes"
@@ -27,6 +31,24 @@ no-query = refl
 
 type-of-json : content_type Json ≡ (codes "content-type", codes "application/json")
 type-of-json = refl
+
+post-only-says-post : answer_fields PostOnly Json
+    ≡ (codes "allow", codes "POST") ∷ (codes "content-type", codes "application/json") ∷ []
+post-only-says-post = refl
+
+forbidden-says-its-type : answer_fields Forbidden Json ≡ (codes "content-type", codes "application/json") ∷ []
+forbidden-says-its-type = refl
+
+first-of-two :
+    first_value ((codes "x-mark", plain_value (codes "b") ∷ plain_value (codes "c") ∷ []) ∷ []) (codes "x-mark")
+    ≡ Some (codes "b")
+first-of-two = refl
+
+no-such-field : first_value ((codes "x-mark", plain_value (codes "b") ∷ []) ∷ []) (codes "mark") ≡ None
+no-such-field = refl
+
+free-slot-has-no-client : loopback_in None ≡ false
+free-slot-has-no-client = refl
 
 last-says-close : closing true ≡ (codes "connection", codes "close") ∷ []
 last-says-close = refl

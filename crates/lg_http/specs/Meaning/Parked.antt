@@ -17,6 +17,11 @@ abbrev pub parked_in : Slot → ℕ
 parked_in None = 0
 parked_in (Some peer) = if is_parked peer.phase then 1 else 0
 
+-- whether a slot's client is on loopback; a free slot has no client
+abbrev pub loopback_in : Slot → Bool
+loopback_in None = false
+loopback_in (Some peer) = peer.is_loopback
+
 -- how many long polls wait
 abbrev pub parked_count : List Slot → ℕ
 parked_count slots = sum_by parked_in slots

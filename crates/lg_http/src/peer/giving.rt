@@ -20,8 +20,8 @@ use std::io;
 /// Has a connection answer what it was given.
 fn advance<S: Site>(http: &mut Connection, desk: &mut Desk<S>)
     requires { desk.old.version ≡ S.version desk.old.site }
-    ensures answers { AddsCalls (RepliesAmong S.answers S.version S.waits desk.old.hosts desk.old.others) desk.old.site
-        (history http.old).calls (history http.new).calls }
+    ensures answers { AddsCalls (RepliesAmong S.answers S.acts S.version S.waits desk.old.hosts desk.old.others
+        desk.old.is_loopback) desk.old.site (history http.old).calls (history http.new).calls }
     ensures site { desk.new.site ≡ desk.old.site }
     ensures hosts { desk.new.hosts ≡ desk.old.hosts }
     ensures rests { Rests (config_of http.new) (history http.new) }
@@ -40,8 +40,8 @@ impl Peer {
         // Each whole request that the connection was given is answered now.
         ensures rests { result ≢ Step.Gone → Rests (config_of self.new.http) (history self.new.http) }
         ensures stream { stream_of self.new ≡ stream_of self.old }
-        ensures answers { Answers (RepliesAmong S.answers S.version S.waits desk.old.hosts turn.now.others)
-            desk.old.site self.old self.new }
+        ensures answers { Answers (RepliesAmong S.answers S.acts S.version S.waits desk.old.hosts turn.now.others
+            turn.now.is_loopback) desk.old.site self.old self.new }
         ensures site { desk.new.site ≡ desk.old.site }
         ensures hosts { desk.new.hosts ≡ desk.old.hosts }
         ensures bounded { length self.new.held.items ≤ length self.old.held.items }
@@ -51,6 +51,7 @@ impl Peer {
         }
         desk.version = turn.version;
         desk.others = turn.others;
+        desk.is_loopback = turn.is_loopback;
         advance(&mut self.http, desk);
         self.until = turn.at.milliseconds().saturating_add(LIMIT_MS);
         self.turn_to_answer()

@@ -67,8 +67,8 @@ impl Peer {
         ensures over { self.old.until ≤ turn.now.at → result ≢ Step.Gone → IsAwake self.new.phase }
         ensures time { result ≢ Step.Gone → KeepsTime turn.now.at self.old self.new }
         ensures stream { GoesOn self.old self.new }
-        ensures answers { Answers (RepliesAmong S.answers S.version S.waits desk.old.hosts turn.now.others)
-            desk.old.site self.old self.new }
+        ensures answers { Answers (RepliesAmong S.answers S.acts S.version S.waits desk.old.hosts turn.now.others
+            turn.now.is_loopback) desk.old.site self.old self.new }
         ensures site { desk.new.site ≡ desk.old.site }
         ensures hosts { desk.new.hosts ≡ desk.old.hosts }
         ensures bounded { IsBounded self.old → IsBounded self.new }
@@ -94,8 +94,8 @@ impl Peer {
         ensures parks { MAX_PARKED ≤ turn.now.others → result ≢ Step.Gone → IsAwake self.new.phase }
         ensures time { result ≢ Step.Gone → KeepsTime turn.now.at self.old self.new }
         ensures stream { GoesOn self.old self.new }
-        ensures answers { Answers (RepliesAmong S.answers S.version S.waits desk.old.hosts turn.now.others)
-            desk.old.site self.old self.new }
+        ensures answers { Answers (RepliesAmong S.answers S.acts S.version S.waits desk.old.hosts turn.now.others
+            turn.now.is_loopback) desk.old.site self.old self.new }
         ensures site { desk.new.site ≡ desk.old.site }
         ensures hosts { desk.new.hosts ≡ desk.old.hosts }
         ensures bounded { IsBounded self.old → IsBounded self.new }
@@ -138,8 +138,8 @@ impl Peer {
             ⊎ MatchOption wait ⊥ (λ w. WaitsFrom turn.now.at w self.new) }
         ensures time { result ≢ Step.Gone → KeepsTime turn.now.at self.old self.new }
         ensures stream { stream_of self.new ≡ stream_of self.old }
-        ensures answers { Answers (RepliesAmong S.answers S.version S.waits desk.old.hosts turn.now.others)
-            desk.old.site self.old self.new }
+        ensures answers { Answers (RepliesAmong S.answers S.acts S.version S.waits desk.old.hosts turn.now.others
+            turn.now.is_loopback) desk.old.site self.old self.new }
         ensures site { desk.new.site ≡ desk.old.site }
         ensures hosts { desk.new.hosts ≡ desk.old.hosts }
         ensures bounded { IsBounded self.old → IsBounded self.new }

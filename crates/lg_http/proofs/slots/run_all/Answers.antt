@@ -18,7 +18,7 @@ loop-slot-preserved g c =
       parked = parked_more slots k c.loop-slot.rest.parked c.run_next-rest.result.parked _ new was.parked ran.count (search rules) within;
       slots = λ h.
           let now = was.slots h in
-          slots_after g.S.Site.answers g.S.Site.version g.S.Site.waits c.args.desk.now.hosts c.loop-slot.desk.hosts
+          slots_after g.S.Site.answers g.S.Site.acts g.S.Site.version g.S.Site.waits c.args.desk.now.hosts c.loop-slot.desk.hosts
           g.S.Site.later g.met.S.Site.order c.args.desk.now.site c.loop-slot.desk.site slots k c.loop-slot.rest.parked
           c.run_next-rest.result.parked _ new c.args.ended.now.items c.loop-slot.ended.items c.run_next-rest.new.ended.items
           was.hosts was.site was.parked ran.count ran.few ran.bounded (search rules) within ran.had now.0 now.1;

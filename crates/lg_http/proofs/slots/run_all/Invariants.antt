@@ -11,9 +11,9 @@ abbrev pub invariant-loop-slot : goal.invariant-loop-slot
 invariant-loop-slot g l = record {
   current : AllWithin (InSlot (IsCurrent l.at l.version)) l.slot-items 0 l.slot-index;
   parked : l.rest.parked ≡ parked_count l.slot-items;
-  slots : AreSlots (Replies g.S.Site.answers g.S.Site.version g.S.Site.waits l.fn.desk.hosts) g.S.Site.later l.fn.desk.site l.initial.slot-items
-      → AreSlots (Replies g.S.Site.answers g.S.Site.version g.S.Site.waits l.fn.desk.hosts) g.S.Site.later l.fn.desk.site l.slot-items
-      × AddsEnded (Replies g.S.Site.answers g.S.Site.version g.S.Site.waits l.fn.desk.hosts) g.S.Site.later l.fn.desk.site l.fn.ended.items l.ended.items;
+  slots : AreSlots (Replies g.S.Site.answers g.S.Site.acts g.S.Site.version g.S.Site.waits l.fn.desk.hosts) g.S.Site.later l.fn.desk.site l.initial.slot-items
+      → AreSlots (Replies g.S.Site.answers g.S.Site.acts g.S.Site.version g.S.Site.waits l.fn.desk.hosts) g.S.Site.later l.fn.desk.site l.slot-items
+      × AddsEnded (Replies g.S.Site.answers g.S.Site.acts g.S.Site.version g.S.Site.waits l.fn.desk.hosts) g.S.Site.later l.fn.desk.site l.fn.ended.items l.ended.items;
   site : l.desk.site ≡ l.fn.desk.site;
   hosts : l.desk.hosts ≡ l.fn.desk.hosts;
 }

@@ -7,7 +7,7 @@ use Rattle.lg_http.proofs.slots.run_peer.Goals as goal
 pub returns-then-not-is_due-clause-answers : goal.returns-then-not-is_due-clause-answers
 returns-then-not-is_due-clause-answers g c =
     adds_nothing
-    (RepliesAmong g.S.Site.answers g.S.Site.version g.S.Site.waits c.args.desk.now.hosts c.args.turn.now.others)
+    (RepliesAmong g.S.Site.answers g.S.Site.acts g.S.Site.version g.S.Site.waits c.args.desk.now.hosts c.args.turn.now.others c.args.turn.now.is_loopback)
     c.args.desk.now.site
     (calls_of c.args.peer.now) (calls_of c.args.peer.now) refl
 

@@ -15,9 +15,9 @@ returns-then-not-is_answered-clause-ok g c =
     let closes : fields_of c.put_close.new.response ≡ closing (full || has_body request) =
     c.in_ok-put_close.ensures.headers ∙ ap (λ h. h ++ closing c.is_last.result) c.requires.headers
     ∙ ap (λ b. closing b) c.is_last.ensures in
-    replied g.S.Site.answers g.S.Site.waits desk.hosts desk.others desk.version full desk.site request
+    replied g.S.Site.answers g.S.Site.acts g.S.Site.waits desk.hosts desk.others desk.version desk.is_loopback full desk.site request
     c.put_misdirected.new.response c.put_misdirected.result _ refl c.is_too_many-is_full.ensures
-    (misdirected_reply g.S.Site.answers desk.hosts full desk.site request c.put_close.new.response c.put_misdirected.new.response
+    (misdirected_reply g.S.Site.answers g.S.Site.acts desk.hosts desk.is_loopback full desk.site request c.put_close.new.response c.put_misdirected.new.response
     c.put_misdirected.result away closes c.put_misdirected.ensures.status c.put_misdirected.ensures.headers c.put_misdirected.ensures.body)
 
 pub returns-clause-ok : goal.returns-clause-ok
@@ -31,9 +31,9 @@ returns-clause-ok g c =
     let closes : fields_of c.put_close.new.response ≡ closing (full || has_body request) =
     c.in_ok-put_close.ensures.headers ∙ ap (λ h. h ++ closing c.is_last.result) c.requires.headers
     ∙ ap (λ b. closing b) c.is_last.ensures in
-    replied g.S.Site.answers g.S.Site.waits desk.hosts desk.others desk.version full desk.site request
-    c.put_answer.new.response c.put_answer.result _ refl c.is_too_many-is_full.ensures
-    (site_reply g.S.Site.answers desk.hosts full desk.site request c.put_close.new.response c.put_answer.new.response
-    c.put_answer.result c.in_ok-answer.answer here (subst IsServedMethod (c.as_str.ensures.value ∙ c.method.ensures) served) free
-    (subst (λ uri. g.S.Site.answers desk.site (uri_path uri) (uri_query uri) c.in_ok-answer.answer) c.uri.ensures c.in_ok-answer.ensures)
-    closes c.put_answer.ensures.status c.put_answer.ensures.headers c.put_answer.ensures.body)
+    replied g.S.Site.answers g.S.Site.acts g.S.Site.waits desk.hosts desk.others desk.version desk.is_loopback full desk.site request
+    c.put_answer-2.new.response c.put_answer-2.result _ refl c.is_too_many-is_full.ensures
+    (site_reply g.S.Site.answers g.S.Site.acts desk.hosts desk.is_loopback full desk.site request c.put_close.new.response c.put_answer-2.new.response
+    c.put_answer-2.result c.in_ok-answer-2.answer here (subst IsServedMethod (c.as_str.ensures.value ∙ c.method.ensures) served) free
+    (subst (λ uri. g.S.Site.answers desk.site (uri_path uri) (uri_query uri) c.in_ok-answer-2.answer) c.uri.ensures c.in_ok-answer-2.ensures)
+    closes c.put_answer-2.ensures.status c.put_answer-2.ensures.headers c.put_answer-2.ensures.body)

@@ -26,7 +26,7 @@ returns-then-not-self-clause-time g c = λ _. inl (c.receive.ensures.phase, c.re
 pub returns-then-not-self-clause-answers : goal.returns-then-not-self-clause-answers
 returns-then-not-self-clause-answers g c =
     adds_nothing
-    (RepliesAmong g.S.Site.answers g.S.Site.version g.S.Site.waits c.args.desk.now.hosts c.args.turn.now.others)
+    (RepliesAmong g.S.Site.answers g.S.Site.acts g.S.Site.version g.S.Site.waits c.args.desk.now.hosts c.args.turn.now.others c.args.turn.now.is_loopback)
     c.args.desk.now.site
     (calls_of c.args.self.now) (calls_of c.receive.new.self) c.receive.ensures.calls
 
@@ -102,7 +102,7 @@ returns-in-Request-clause-stream g c = goes_on_same c.args.self.now c.begin.new.
 pub returns-in-Partial-clause-answers : goal.returns-in-Partial-clause-answers
 returns-in-Partial-clause-answers g c =
     adds_nothing
-    (RepliesAmong g.S.Site.answers g.S.Site.version g.S.Site.waits c.args.desk.now.hosts c.args.turn.now.others)
+    (RepliesAmong g.S.Site.answers g.S.Site.acts g.S.Site.version g.S.Site.waits c.args.desk.now.hosts c.args.turn.now.others c.args.turn.now.is_loopback)
     c.args.desk.now.site
     (calls_of c.args.self.now) (calls_of c.args.self.now) refl
 
@@ -112,7 +112,7 @@ returns-in-Partial-clause-stream g c = goes_on_same c.args.self.now c.args.self.
 pub returns-in-Partial-2-clause-answers : goal.returns-in-Partial-2-clause-answers
 returns-in-Partial-2-clause-answers g c =
     adds_nothing
-    (RepliesAmong g.S.Site.answers g.S.Site.version g.S.Site.waits c.args.desk.now.hosts c.args.turn.now.others)
+    (RepliesAmong g.S.Site.answers g.S.Site.acts g.S.Site.version g.S.Site.waits c.args.desk.now.hosts c.args.turn.now.others c.args.turn.now.is_loopback)
     c.args.desk.now.site
     (calls_of c.args.self.now) (calls_of c.args.self.now) refl
 

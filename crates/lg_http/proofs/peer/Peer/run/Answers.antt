@@ -16,12 +16,12 @@ loop-preserved g c =
       parks = λ awake full goes_on. is.parks (was.parks awake full (search rules)) full goes_on;
       time = λ goes_on. keeps_both turn.at c.args.self.now c.loop.self c.step-step-in-loop.new.self (was.time (search rules)) (is.time goes_on);
       answers =
-          adds_both (RepliesAmong g.S.Site.answers g.S.Site.version g.S.Site.waits c.args.desk.now.hosts turn.others)
+          adds_both (RepliesAmong g.S.Site.answers g.S.Site.acts g.S.Site.version g.S.Site.waits c.args.desk.now.hosts turn.others turn.is_loopback)
           c.args.desk.now.site (calls_of c.args.self.now) (calls_of c.loop.self)
           (calls_of c.step-step-in-loop.new.self) was.answers
-          (subst (λ (hosts : Hosts). AddsCalls (RepliesAmong g.S.Site.answers g.S.Site.version g.S.Site.waits hosts turn.others)
+          (subst (λ (hosts : Hosts). AddsCalls (RepliesAmong g.S.Site.answers g.S.Site.acts g.S.Site.version g.S.Site.waits hosts turn.others turn.is_loopback)
           c.args.desk.now.site (calls_of c.loop.self) (calls_of c.step-step-in-loop.new.self)) was.hosts
-          (subst (λ site. AddsCalls (RepliesAmong g.S.Site.answers g.S.Site.version g.S.Site.waits c.loop.desk.hosts turn.others) site
+          (subst (λ site. AddsCalls (RepliesAmong g.S.Site.answers g.S.Site.acts g.S.Site.version g.S.Site.waits c.loop.desk.hosts turn.others turn.is_loopback) site
           (calls_of c.loop.self) (calls_of c.step-step-in-loop.new.self)) was.site is.answers));
       site = is.site ∙ was.site;
       hosts = is.hosts ∙ was.hosts;

@@ -12,7 +12,7 @@ invariant-loop g l = record {
   current : l.step ≢ Gone → IsCurrent l.turn.at l.turn.version l.self;
   parks : IsAwake l.fn.self.phase → MAX_PARKED ≤ l.turn.others → l.step ≢ Gone → IsAwake l.self.phase;
   time : l.step ≢ Gone → KeepsTime l.turn.at l.fn.self l.self;
-  answers : Answers (RepliesAmong g.S.Site.answers g.S.Site.version g.S.Site.waits l.fn.desk.hosts l.turn.others) l.fn.desk.site l.fn.self l.self;
+  answers : Answers (RepliesAmong g.S.Site.answers g.S.Site.acts g.S.Site.version g.S.Site.waits l.fn.desk.hosts l.turn.others l.turn.is_loopback) l.fn.desk.site l.fn.self l.self;
   site : l.desk.site ≡ l.fn.desk.site;
   hosts : l.desk.hosts ≡ l.fn.desk.hosts;
   bounded : IsBounded l.fn.self → IsBounded l.self;

@@ -8,7 +8,7 @@ use Rattle.lg_http.proofs.server.Server.accept_some.Goals.{in-Ok, in-Err}
 
 pub loop-init : goal.loop-init
 loop-init g c = record {
-  served = λ hosts site h. served_none (Replies g.S.Site.answers g.S.Site.version g.S.Site.waits hosts) g.S.Site.later site _ _ refl h;
+  served = λ hosts site h. served_none (Replies g.S.Site.answers g.S.Site.acts g.S.Site.version g.S.Site.waits hosts) g.S.Site.later site _ _ refl h;
   turns = refl;
 }
 
@@ -19,10 +19,10 @@ loop-preserved g c =
       served = λ hosts site h.
           let before = was.served hosts site h in
           elim c.match-accept.branch [
-            | in-Ok w ↦ rw w.self-is (served_both (Replies g.S.Site.answers g.S.Site.version g.S.Site.waits hosts) g.S.Site.later site _ _ _ before (w.admit.ensures.served hosts site before.slots))
+            | in-Ok w ↦ rw w.self-is (served_both (Replies g.S.Site.answers g.S.Site.acts g.S.Site.version g.S.Site.waits hosts) g.S.Site.later site _ _ _ before (w.admit.ensures.served hosts site before.slots))
             | in-Err w ↦
                 rw w.self-is
-                (subst (λ (slots : Slots). AreServed (Replies g.S.Site.answers g.S.Site.version g.S.Site.waits hosts) g.S.Site.later site c.args.self.now.slots slots) (sym w.not_accepted.ensures.slots) before)
+                (subst (λ (slots : Slots). AreServed (Replies g.S.Site.answers g.S.Site.acts g.S.Site.version g.S.Site.waits hosts) g.S.Site.later site c.args.self.now.slots slots) (sym w.not_accepted.ensures.slots) before)
           ];
       turns =
           elim c.match-accept.branch [

@@ -5,14 +5,14 @@ use Rattle.lg_http.proofs.server.Server.run_clients.Goals as goal
 
 pub returns-then-refresh-version-clause-served : goal.returns-then-refresh-version-clause-served
 returns-then-refresh-version-clause-served g c = λ h.
-    let replies = Replies g.S.Site.answers g.S.Site.version g.S.Site.waits c.args.desk.now.hosts in
+    let replies = Replies g.S.Site.answers g.S.Site.acts g.S.Site.version g.S.Site.waits c.args.desk.now.hosts in
     served_until replies g.S.Site.later g.met.S.Site.order _ _ c.refresh.ensures.goes_on _ _
     (c.run-rest.ensures.served
     (slots_until replies g.S.Site.later g.met.S.Site.order _ _ c.refresh-version.ensures.goes_on (slots_of c.args.self.now) h))
 
 pub returns-else-refresh-version-clause-served : goal.returns-else-refresh-version-clause-served
 returns-else-refresh-version-clause-served g c = λ h.
-    let replies = Replies g.S.Site.answers g.S.Site.version g.S.Site.waits c.args.desk.now.hosts in
+    let replies = Replies g.S.Site.answers g.S.Site.acts g.S.Site.version g.S.Site.waits c.args.desk.now.hosts in
     served_until replies g.S.Site.later g.met.S.Site.order _ _ c.refresh.ensures.goes_on _ _
     (c.run-rest.ensures.served
     (slots_until replies g.S.Site.later g.met.S.Site.order _ _ c.refresh-version.ensures.goes_on (slots_of c.args.self.now) h))

@@ -9,7 +9,7 @@ pub returns-clause-served : goal.returns-clause-served
 returns-clause-served g c = λ h.
     let hosts = c.args.desk.now.hosts in
     let site = c.run_clients-wait_ms.new.desk.site in
-    let replies = Replies g.S.Site.answers g.S.Site.version g.S.Site.waits hosts in
+    let replies = Replies g.S.Site.answers g.S.Site.acts g.S.Site.version g.S.Site.waits hosts in
     let ran = c.run_clients-wait_ms.ensures.served h in
     let noted = c.note_events.ensures hosts site ran.slots in
     let same : c.if-note_events.self.slots ≡ c.note_events.new.slots = search rules in
