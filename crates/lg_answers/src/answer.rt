@@ -24,7 +24,7 @@ use lg_rules::{Name, Record};
 use std::alloc::{AllocError, Global};
 
 /// An answer with the status 200.
-fn found(kind: Kind, body: String) -> HttpAnswer
+pub(crate) fn found(kind: Kind, body: String) -> HttpAnswer
     ensures { answer_value result ≡ found_answer kind (string_bytes body) }
 {
     HttpAnswer {
@@ -35,7 +35,11 @@ fn found(kind: Kind, body: String) -> HttpAnswer
 }
 
 /// An answer with a fault in words.
-fn error_answer(alloc: Global, status: HttpStatus, reason: &str) -> Result<HttpAnswer, AllocError>
+pub(crate) fn error_answer(
+    alloc: Global,
+    status: HttpStatus,
+    reason: &str,
+) -> Result<HttpAnswer, AllocError>
     ensures { IfOk result (λ answer. answer_value answer ≡ error_answer status reason.now) }
 {
     let body = error_body(alloc, reason)?;
@@ -126,9 +130,9 @@ fn route_answer(
 /// configuration that runs. It is made at once: to wait for a change is the caller's, who finds by
 /// [`wait_of`](crate::wait_of) how long.
 ///
-/// The status is 200; 404 if the path or the member is unknown; 400 if the name or the query is faulty; and 503 for the
-/// health if this member is ousted. The body of a fault is `{"error":"WORDS"}`. Memory is allocated for the body and
-/// for what it is made of. The only error is that it was refused.
+/// The status is 200; 404 if the path or the member is unknown; 405 if the path takes POST alone; 400 if the name or
+/// the query is faulty; and 503 for the health if this member is ousted. The body of a fault is `{"error":"WORDS"}`.
+/// Memory is allocated for the body and for what it is made of. The only error is that it was refused.
 #[tactic(auto, unfolding(crate::specs::Meaning::Answers::answer_to))]
 pub fn answer_to(
     alloc: Global,

@@ -2,14 +2,16 @@
 //! reads and writes nothing, and starts no thread: its calls make an answer of plain values.
 //!
 //! [`answer_to`] makes the answer to a request, from a [`Snapshot`], the [`Changes`] that are kept, and the
-//! [`ShownConfig`]. [`route_of`] says which route a request has, and [`wait_of`] what it waits for. `specs/Meaning`
-//! defines each route and each body, and the files there whose names end in `Examples` have worked ones.
+//! [`ShownConfig`]. [`route_of`] says which route a request has, and [`wait_of`] what it waits for. What comes of a
+//! request to leave says [`leave_reply`]. `specs/Meaning` defines each route and each body, and the files there whose
+//! names end in `Examples` have worked ones.
 #![tactic(auto)]
 
 mod answer;
 mod changes;
 mod config;
 mod health;
+mod leave;
 mod members;
 mod metric;
 mod metrics;
@@ -21,6 +23,7 @@ mod route;
 mod snapshot;
 
 pub use answer::answer_to;
+pub use leave::{LEAVE_FIELD, LeaveAsked, LeaveReply, is_leave, leave_reply};
 pub use lg_changes::{Altered, Change, Changes, MAX_CHANGES};
 pub use lg_counters::{Counts, Drops};
 pub use query::MAX_WAIT_MS;

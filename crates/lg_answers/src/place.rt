@@ -24,16 +24,19 @@ pub(crate) enum Place {
     Config,
     /// `/metrics`.
     Metrics,
+    /// `/v1/leave`.
+    Leave,
 }
 
 /// All of them.
-const PLACES: [Place; 6] = [
+const PLACES: [Place; 7] = [
     Place::Page,
     Place::Members,
     Place::Health,
     Place::Changes,
     Place::Config,
     Place::Metrics,
+    Place::Leave,
 ];
 
 impl Place {
@@ -48,6 +51,7 @@ impl Place {
             Place::Changes => "/v1/changes",
             Place::Config => "/v1/config",
             Place::Metrics => "/metrics",
+            Place::Leave => "/v1/leave",
         }
     }
 

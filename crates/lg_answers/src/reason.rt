@@ -14,6 +14,9 @@ pub enum RouteFault {
     /// The path is none of those that there are.
     #[error("there is nothing at this path")]
     UnknownPath,
+    /// The path takes POST alone.
+    #[error("this path takes POST alone")]
+    PostOnly,
     /// What stands behind `/v1/members/` is no name.
     #[error("a name has to be 1 to 32 bytes of A-Z a-z 0-9 . _ -")]
     NoName,
@@ -29,12 +32,14 @@ pub enum RouteFault {
 }
 
 impl RouteFault {
-    /// The status of the answer: 404 if the path is unknown, or else 400 (RFC 9110, sections 15.5.1 and 15.5.5).
+    /// The status of the answer: 404 if the path is unknown, 405 if it takes POST alone, or else 400 (RFC 9110,
+    /// sections 15.5.1, 15.5.5 and 15.5.6).
     pub fn status(self) -> HttpStatus
         ensures { result ≡ fault_status self }
     {
         match self {
             RouteFault::UnknownPath => HttpStatus::NotFound,
+            RouteFault::PostOnly => HttpStatus::PostOnly,
             RouteFault::NoName
             | RouteFault::NoQuery
             | RouteFault::BadStatus
@@ -48,6 +53,7 @@ impl RouteFault {
     {
         match self {
             RouteFault::UnknownPath => "there is nothing at this path",
+            RouteFault::PostOnly => "this path takes POST alone",
             RouteFault::NoName => "a name has to be 1 to 32 bytes of A-Z a-z 0-9 . _ -",
             RouteFault::NoQuery => "this path takes no query",
             RouteFault::BadStatus => {

@@ -146,6 +146,7 @@ fn place_route(place: Place, query: &[u8]) -> Result<Route, RouteFault>
         Place::Changes => changes_route(query),
         Place::Config => plain_route(Route::Config, query),
         Place::Metrics => plain_route(Route::Metrics, query),
+        Place::Leave => Err(RouteFault::PostOnly),
     }
 }
 
@@ -173,7 +174,8 @@ fn path_route(path: &[u8], query: &[u8]) -> Result<Route, RouteFault>
 /// | `/v1/changes` | none, or `after=V` and `wait_ms=W`, each at most once and in any order, with an `&` between them |
 ///
 /// No byte of these needs percent-encoding, and none is decoded: a `%` stands in no path, name or number. Paths and
-/// names differ if their cases do. The error is [`RouteFault::UnknownPath`] exactly if the path is none of these.
+/// names differ if their cases do. The error is [`RouteFault::PostOnly`] if the path is `/v1/leave`, which takes POST
+/// alone, and [`RouteFault::UnknownPath`] exactly if it is neither that nor one of these.
 #[tactic(auto, unfolding(crate::specs::Meaning::Routes::route_of))]
 pub fn route_of(path: &[u8], query: Option<&[u8]>) -> Result<Route, RouteFault>
     ensures { result ≡ route_of path.now (option_map (λ bytes. bytes.now) query.entry) }

@@ -4,6 +4,7 @@ use Rattle.lg_http.specs.declared.site.Wait.{Wait}
 use Rattle.lg_text.specs.Meaning.Cutting.{before, behind}
 use Rattle.lg_answers.specs.declared.reason.RouteFault.{RouteFault}
 use Rattle.lg_answers.specs.declared.reason.RouteFault.TheVariants.{UnknownPath, NoName, NoQuery, BadStatus, BadChanges}
+use Rattle.lg_answers.specs.declared.reason.RouteFault.TheVariants.{PostOnly}
 use Rattle.lg_answers.specs.declared.route.Route.{Route}
 use Rattle.lg_answers.specs.declared.route.Route.TheVariants.{Page, Members, Member, Health, Changes, Config, Metrics}
 use Rattle.lg_answers.specs.declared.route.StatusKind.TheVariants.{Suspect}
@@ -76,6 +77,12 @@ unknown_paths :
     × is_no_route (codes "/V1/health") None UnknownPath × is_no_route [] None UnknownPath
 unfolding by_routing
 unknown_paths = (refl, refl, refl, refl)
+
+-- GET and HEAD have no route to a path that takes POST alone
+post_only :
+    is_no_route (codes "/v1/leave") None PostOnly × is_no_route (codes "/v1/leave") (Some (codes "a=1")) PostOnly
+unfolding by_routing
+post_only = (refl, refl)
 
 no_names :
     is_no_route (codes "/v1/members/") None NoName × is_no_route (codes "/v1/members/b%2D2") None NoName

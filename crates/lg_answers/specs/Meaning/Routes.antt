@@ -11,6 +11,7 @@ use Rattle.lg_answers.specs.declared.place.Place.{Place}
 use Rattle.lg_answers.specs.declared.place.Place.TheVariants as variants
 use Rattle.lg_answers.specs.declared.reason.RouteFault.{RouteFault}
 use Rattle.lg_answers.specs.declared.reason.RouteFault.TheVariants.{UnknownPath, NoName, NoQuery, BadStatus, BadChanges}
+use Rattle.lg_answers.specs.declared.reason.RouteFault.TheVariants.{PostOnly}
 use Rattle.lg_answers.specs.declared.route.Route.{Route}
 use Rattle.lg_answers.specs.declared.route.Route.TheVariants.{Page, Members, Member, Health, Changes, Config, Metrics}
 use Rattle.lg_answers.specs.declared.route.StatusKind.{StatusKind}
@@ -79,7 +80,7 @@ asked_route (Some wait) = Ok (Changes wait)
 abbrev pub changes_route : List ℕ → Result Route RouteFault
 changes_route query = asked_route (changes_asked query)
 
--- the route of a place with a query
+-- the route of a place with a query; one takes POST alone, whatever the query
 abbrev pub place_route : Place → List ℕ → Result Route RouteFault
 place_route variants.Page query = plain_route Page query
 place_route variants.Members query = members_route query
@@ -87,6 +88,7 @@ place_route variants.Health query = plain_route Health query
 place_route variants.Changes query = changes_route query
 place_route variants.Config query = plain_route Config query
 place_route variants.Metrics query = plain_route Metrics query
+place_route variants.Leave query = Err PostOnly
 
 -- the route of a path with a query
 abbrev pub found_route : Option Place → List ℕ → Result Route RouteFault
