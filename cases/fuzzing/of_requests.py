@@ -23,7 +23,7 @@ MOST_REQUESTS = 12
 CONNECTIONS = 50
 METHODS = ["GET", "GET", "GET", "GET", "HEAD", "HEAD", "POST", "PUT", "DELETE", "OPTIONS", "PATCH"]
 PATHS = ["/", "//", "/v1", "/v1/", "/v1/members", "/v1/members/", "/v1/members/", "/v1/health", "/v1/changes",
-         "/v1/config", "/v1/config/", "/metrics", "/favicon.ico"]
+         "/v1/config", "/v1/config/", "/v1/leave", "/v1/leave/", "/metrics", "/favicon.ico"]
 MEMBERS = ["b", "a", "c", "d", "e", "nobody", "a+b", "%62", "n" * 32, "n" * 33, "b/", ""]
 ALL_QUERIES = ["", "status=alive", "status=suspect", "status=failed", "status=left", "status=dead", "status=",
            "after=0", "after=0&wait_ms=1", "wait_ms=5", "wait_ms=30001", "wait_ms=1&after=0", "after=1&after=1",
@@ -132,7 +132,7 @@ class Requests:
     name = "requests"
     wrong_rules = (
         (wire, "MOST_NAME", 31), (web, "SERVED", ("GET", "HEAD", "OPTIONS")), (web, "MOST_WAIT", 4),
-        (web, "OWN_NAME", "evil.example"),
+        (web, "OWN_NAME", "evil.example"), (web, "LEAVE", "/v1/leave/"),
         (web, "MEMBERS_QUERIES", ("", "status=alive", "status=suspect")), (web, "PLAIN", (*web.PLAIN, "/v1/config/")))
 
     def make(self, dice):

@@ -15,6 +15,8 @@ JSON = "application/json"
 MEDIA = {"/": "text/html; charset=utf-8", "/metrics": "text/plain; version=0.0.4; charset=utf-8"}
 MEMBERS_QUERIES = ("", *(f"status={it}" for it in STATUS_WORDS.values()))
 SERVED = ("GET", "HEAD")
+# This path takes POST alone, with a field that no case has.
+LEAVE = "/v1/leave"
 # The name of a host that a server on a loopback address answers to, beside addresses.
 OWN_NAME = "localhost"
 # What may be answered to damaged bytes: they may also be good ones.
@@ -62,9 +64,11 @@ def code_of(method, host, target, known):
     """The code of the answer to a request for a target of a host, if members of these names are known."""
     if not is_own(host):
         return 421
+    path, _, query = target.partition("?")
+    if path == LEAVE:
+        return 400 if method == "POST" else 405
     if method not in SERVED:
         return 405
-    path, _, query = target.partition("?")
     if path.startswith(ONE_MEMBER):
         name = path.removeprefix(ONE_MEMBER).encode()
         return 400 if query or not is_name(name) else 200 if name in known else 404

@@ -1,11 +1,16 @@
 //! Answers that are refused memory once. What each says is shown by `lg_answers_tests`; here three answers to one
 //! request are compared, of which one may be refused.
-use lg_answers::{Changes, Drops, MAX_CHANGES, NodeNumber, ShownConfig, Snapshot, answer_to};
+use lg_answers::{
+    Changes, Drops, LeaveAsked, MAX_CHANGES, NodeNumber, ShownConfig, Snapshot, answer_to,
+};
 use lg_counters::Counters;
 use lg_http::HttpAnswer;
+use lg_status_server::leave;
 use lg_testing::{alive, at, failed, incarnation, letter, local, suspect};
 use lg_timing::{Config, Seed};
 use std::alloc::{AllocError, Global};
+use std::sync::atomic::AtomicBool;
+use std::sync::atomic::Ordering::SeqCst;
 
 /// What the answers of b are made of.
 #[derive(Drop)]
@@ -134,6 +139,7 @@ const ROWS: &[Row] = &[
     (true, "/metrics", None),
     (false, "/", None),
     (true, "/", None),
+    (false, "/v1/leave", None),
     (false, "/v1/member", None),
     (false, "/v1/health", Some("")),
     (false, "/v1/health", Some("a")),
@@ -150,4 +156,20 @@ fn refused_memory(rt: HostRuntime) {
         let is_met = made.is_ok_and(|made| made.is_met(rt.alloc(), row));
         assert!(rt; is_met, "{row:?}");
     }
+}
+
+/// A request to leave that is refused memory leaves the flag as it is, and sets it once it has its answer.
+#[test]
+fn leaves_after_refused_memory(rt: HostRuntime) {
+    let b = letter(b'b');
+    let asked = LeaveAsked {
+        is_post: true,
+        is_loopback: true,
+        named: Some(b"b"),
+    };
+    let stop = AtomicBool::new(false);
+    let is_answered = leave(rt.alloc(), &b, true, asked, &stop).is_ok();
+    assert!(rt; stop.load(SeqCst) == is_answered);
+    let is_answered_now = leave(rt.alloc(), &b, true, asked, &stop).is_ok();
+    assert!(rt; (is_answered || is_answered_now) && stop.load(SeqCst));
 }

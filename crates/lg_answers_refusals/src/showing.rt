@@ -19,8 +19,8 @@ use std::alloc::Global;
 use std::marker::Brand;
 use std::str;
 use std::sync::Wait;
-use std::sync::atomic::AtomicU64;
 use std::sync::atomic::Ordering::SeqCst;
+use std::sync::atomic::{AtomicBool, AtomicU64};
 
 /// What is done with a site and an agent, in order.
 #[derive(Clone, Copy)]
@@ -161,11 +161,14 @@ fn play_with<A: AgentName, R: Wait>(
         status: Some(local(8946)),
         status_open: true,
     };
+    let stop = AtomicBool::new(false);
     let basis = SiteBasis {
         alloc,
         clock: &clock,
         counters: &counters,
         config,
+        stop: &stop,
+        leave: true,
     };
     let mut site = NodeSite::new(passes.pop()?, basis).ok()?;
     Some(first_unmet(rt, alloc, &clock, &mut hearer, &mut site, steps))

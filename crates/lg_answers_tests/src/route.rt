@@ -1,7 +1,7 @@
 //! Which route each target has, and why others have none.
 use crate::target::parts_of;
 use Route::{Changes, Config, Health, Member, Members, Metrics, Page};
-use RouteFault::{BadChanges, BadStatus, NoName, NoQuery, UnknownPath};
+use RouteFault::{BadChanges, BadStatus, NoName, NoQuery, PostOnly, UnknownPath};
 use lg_answers::StatusKind::{Alive, Failed, Left, Suspect};
 use lg_answers::{MAX_WAIT_MS, Route, RouteFault, route_of, wait_of};
 use lg_http::Wait;
@@ -67,6 +67,10 @@ fn faults(rt: HostRuntime) {
         ("/metrics/", UnknownPath),
         ("*", UnknownPath),
         ("http://127.0.0.1:8946/", UnknownPath),
+        ("/v1/leave/", UnknownPath),
+        ("/v1/leave", PostOnly),
+        ("/v1/leave?", PostOnly),
+        ("/v1/leave?a=1", PostOnly),
         ("/v1/members/", NoName),
         ("/v1/members/b%2D2", NoName),
         ("/v1/members/a/b", NoName),
@@ -105,6 +109,7 @@ fn waits(rt: HostRuntime) {
         ("/v1/changes/?after=41", None),
         ("/v1/members?after=41", None),
         ("/v1/members", None),
+        ("/v1/leave", None),
         ("/", None),
     ];
     for (target, wanted) in rows {
@@ -119,6 +124,7 @@ fn waits(rt: HostRuntime) {
 fn words(rt: HostRuntime) {
     let rows = [
         (UnknownPath, 404, "there is nothing at this path"),
+        (PostOnly, 405, "this path takes POST alone"),
         (
             NoName,
             400,

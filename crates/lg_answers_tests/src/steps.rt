@@ -21,8 +21,8 @@ use std::alloc::Global;
 use std::marker::Brand;
 use std::str;
 use std::sync::Wait;
-use std::sync::atomic::AtomicU64;
 use std::sync::atomic::Ordering::SeqCst;
+use std::sync::atomic::{AtomicBool, AtomicU64};
 
 /// What is done with a site and an agent, in order.
 #[derive(Clone, Copy, Debug)]
@@ -291,6 +291,7 @@ fn play_with<A: AgentName, R: Wait>(
         stood_still: AtomicU64::new(0),
     };
     let counters = Counters::new(letter(b'b'), at(0));
+    let stop = AtomicBool::new(false);
     let basis = SiteBasis {
         alloc,
         clock: &clock,
@@ -301,6 +302,8 @@ fn play_with<A: AgentName, R: Wait>(
             status: Some(local(8946)),
             status_open: true,
         },
+        stop: &stop,
+        leave: true,
     };
     let mut site = NodeSite::new(passes.pop()?, basis).ok()?;
     let doing = Doing {

@@ -1,5 +1,5 @@
 -- What a site shows after its first look, after a later look, and after a reading.
-use Rattle.std.proofs.Common.{◌≡◌, ℕ, ◌≤◌, List, [], ◌++◌, length, refl, sym, ap, ◌∙◌, subst, inr, arith, true, length-append}
+use Rattle.std.proofs.Common.{◌≡◌, ℕ, Bool, ◌≤◌, List, [], ◌++◌, length, refl, sym, ap, ◌∙◌, subst, inr, arith, true, length-append}
 use Rattle.std.specs.Prelude.{filter, IfOk, Option, Result, Ok, Err}
 use Rattle.std.specs.declared.alloc.AllocError.{AllocError}
 use mathlib.Core.List.{IsPrefix}
@@ -91,10 +91,10 @@ abbrev TellsLast : Changes → ℕ → Type 0
 TellsLast ring changed = (all : List Change) → KeepsNewest ring all → changed ≡ last_version all
 
 -- What a site shows after its first look.
-pub shows_first : (pass : PassValue) (name : List ℕ) (config : ShownConfig) (snapshot : Snapshot) (changes : Changes) (changed : ℕ)
+pub shows_first : (pass : PassValue) (name : List ℕ) (config : ShownConfig) (leave : Bool) (snapshot : Snapshot) (changes : Changes) (changed : ℕ)
     → is_accepted pass.seen ≡ true → IsShown snapshot name pass.seen → KeepsNewest changes (changes_of pass.seen) → TellsLast changes changed
-    → SiteShows (record { pass = pass; name = name; snapshot = snapshot; changes = changes; config = config; changed = changed; looked = Taken }) pass.seen
-shows_first pass name config snapshot changes changed accepted shown kept tells = record {
+    → SiteShows (record { pass = pass; name = name; snapshot = snapshot; changes = changes; config = config; leave = leave; changed = changed; looked = Taken }) pass.seen
+shows_first pass name config leave snapshot changes changed accepted shown kept tells = record {
   accepted = accepted;
   begins = prefix_itself pass.seen;
   is_shown = shown;
@@ -230,6 +230,7 @@ later_look r site p' s' new c' changed' reading is went tells same read = record
   version_rises = omega (arith, rises_on r site p' s' c' is went, same.version);
   name_is = refl;
   config_is = refl;
+  leave_is = refl;
 }
 
 pub site_look : (r : Looked) (site : SiteValue) (p' : PassValue) (s' new : Snapshot) (c' : Changes) (changed' : ℕ) (reading : Reading)

@@ -1,13 +1,16 @@
 //! The status server of a node: what it shows over HTTP.
 //!
 //! [`NodeSite`] is a site of `lg_http` over a pass of the agent: it looks at the agent and at what the loops of the
-//! node count (`lg_counters`), and answers with the bodies of `lg_answers`. It takes no lock.
+//! node count (`lg_counters`), and answers with the bodies of `lg_answers`. It takes no lock. A request to leave sets a
+//! flag that the node looks at.
 #![tactic(auto)]
 
+mod leaving;
 mod looked;
 mod reading;
 mod serving;
 mod site;
 
+pub use leaving::leave;
 pub use serving::{Served, bind, serve};
 pub use site::{NodeSite, SiteBasis};

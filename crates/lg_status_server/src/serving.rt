@@ -68,8 +68,8 @@ pub fn serve<'p, A: AgentName, C: Clock, M: Clock>(
     hosts: Hosts,
 ) -> (Pass<'p, A>, Served)
     ensures looked { OnlyLooked pass.entry result.0 }
-    ensures served { ServedAs result.1 basis.entry.counters.now.name basis.entry.config hosts pass.entry result.0
-        server.old server.new }
+    ensures served { ServedAs result.1 basis.entry.counters.now.name basis.entry.config basis.entry.leave hosts
+        pass.entry result.0 server.old server.new }
 {
     let alloc = basis.alloc;
     let site = match NodeSite::new(pass, basis) {

@@ -13,6 +13,7 @@ ghost use Rattle.lg_follow.specs.Meaning.Sights.{OnlyLooked};
 ghost use Rattle.lg_status_server.specs.Meaning.Readings.{HasRead};
 ghost use Rattle.lg_status_server.specs.Meaning.Shown.{IsFirst, IsLater, IsShown};
 
+use crate::leaving::act;
 use crate::looked::{Looked, look, show};
 use crate::reading::Reading;
 use left_right::Absorb;
@@ -21,11 +22,12 @@ use lg_answers::{Changes, ShownConfig, Snapshot, answer_to, wait_of};
 use lg_clock::Clock;
 use lg_counters::Counters;
 use lg_detector::Event;
-use lg_http::{HttpAnswer, Site, Wait};
+use lg_http::{HttpAnswer, OtherRequest, Site, Wait};
 use lg_rules::Incarnation;
 use lg_view::{Published, Update};
 use std::alloc::{AllocError, Global};
 use std::marker::Model;
+use std::sync::atomic::AtomicBool;
 
 /// What a site is made of besides its pass.
 #[derive(Drop)]
@@ -38,6 +40,10 @@ pub struct SiteBasis<'n, C> {
     pub counters: &'n Counters,
     /// The configuration that is shown.
     pub config: ShownConfig,
+    /// It is set once a request asks the node to leave and gets the answer that it leaves.
+    pub stop: &'n AtomicBool,
+    /// Whether the node may be asked to leave over HTTP.
+    pub leave: bool,
 }
 
 /// What a node shows to those who ask it over HTTP, by looks of a pass. It takes no lock. A call that
@@ -78,6 +84,7 @@ where
       snapshot = s.snapshot;
       changes = s.changes;
       config = s.basis.config;
+      leave = s.basis.leave;
       changed = s.changed;
       looked = s.looked;
     } };
@@ -88,6 +95,7 @@ where
       snapshot = s.snapshot;
       changes = s.changes;
       config = s.basis.config;
+      leave = s.basis.leave;
       changed = s.changed;
       looked = s.looked;
     } };
@@ -144,7 +152,8 @@ impl<'p, 'n, A: AgentName, C: Clock> NodeSite<'p, 'n, A, C> {
         ensures looked { MatchResult result (λ site. OnlyLooked pass.entry site.pass)
             (λ refused. OnlyLooked pass.entry refused.1) }
         ensures refusal { IfErr result (λ refused. (refused.0 ≡ NoMemory) ⊎ (refused.0 ≡ NoView)) }
-        ensures first { IfOk result (λ site. IsFirst site basis.entry.counters.now.name basis.entry.config) }
+        ensures first { IfOk result (λ site. IsFirst site basis.entry.counters.now.name basis.entry.config
+            basis.entry.leave) }
     {
         let mut pass = pass;
         let found = match pass.overview(basis.alloc, 0) {
@@ -192,11 +201,13 @@ impl<'p, 'n, A: AgentName, C: Clock> NodeSite<'p, 'n, A, C> {
 }
 
 impl<'p, 'n, A: AgentName, C: Clock> Site for NodeSite<'p, 'n, A, C> {
-    ghost use Rattle.lg_status_server.specs.Meaning.Shown.{IsAnswerOf, IsLater};
+    ghost use Rattle.lg_status_server.specs.Meaning.Shown.{IsActOf, IsAnswerOf, IsLater};
     ghost use Rattle.lg_answers.specs.Meaning.Routes.{wait_of};
     ghost use Rattle.lg_status_server.specs.Support.Later.{later_itself, later_on};
 
     ghost answers = { λ site path query answer. IsAnswerOf site path query answer };
+
+    ghost acts = { λ site asked answer. IsActOf site asked answer };
 
     ghost version = { λ site. site.changed };
 
@@ -228,6 +239,20 @@ impl<'p, 'n, A: AgentName, C: Clock> Site for NodeSite<'p, 'n, A, C> {
             &self.basis.config,
             path,
             query,
+        )
+    }
+
+    fn act(
+        &self,
+        alloc: Global,
+        asked: &OtherRequest<'_>,
+    ) -> Result<Option<HttpAnswer>, AllocError> {
+        act(
+            alloc,
+            &self.basis.counters.name(),
+            self.basis.leave,
+            asked,
+            self.basis.stop,
         )
     }
 }

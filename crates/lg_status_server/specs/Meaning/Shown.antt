@@ -1,5 +1,5 @@
 -- What the status server of a node shows: a list of events of the agent, its changes, and the answers made of them.
-use Rattle.std.specs.Prelude.{◌≡◌, ◌≤◌, ℕ, true, List, length, Option}
+use Rattle.std.specs.Prelude.{◌≡◌, ◌≤◌, ℕ, Bool, true, List, length, Option, option_map}
 use mathlib.Core.List.{IsPrefix}
 use Rattle.lg_changes.specs.declared.ring.Changes.{Changes}
 use Rattle.lg_changes.specs.Meaning.Changes.{last_version}
@@ -10,9 +10,11 @@ use Rattle.lg_view.specs.Meaning.Changes.{changes_of}
 use Rattle.lg_agent.specs.Meaning.Values.{PassValue}
 use Rattle.lg_follow.specs.Meaning.Sights.{OnlyLooked}
 use Rattle.lg_http.specs.declared.site.HttpAnswer.{HttpAnswer}
+use Rattle.lg_http.specs.Meaning.Asked.{AskedValue}
 use Rattle.lg_answers.specs.declared.snapshot.ShownConfig.{ShownConfig}
 use Rattle.lg_answers.specs.declared.snapshot.Snapshot.{Snapshot}
 use Rattle.lg_answers.specs.Meaning.Answers.{answer_to, answer_value}
+use Rattle.lg_answers.specs.Meaning.Leaving.{act_answer}
 use Rattle.lg_status_server.specs.declared.looked.Looked.{Looked}
 use Rattle.lg_status_server.specs.declared.looked.Looked.TheVariants.{Same, Taken, Refused}
 use Rattle.lg_status_server.specs.declared.reading.Reading.{Reading}
@@ -35,13 +37,15 @@ pub record IsShown (s : Snapshot) (name : List ℕ) (events : List Event) : Type
   pub read : HasRead s reading
 
 -- What contracts see of a site: its pass, the name of its member, what it shows, the changes that it keeps, the
--- configuration, the version of the newest change, and what came of its last look.
+-- configuration, whether its node may be asked to leave, the version of the newest change, and what came of its last
+-- look.
 pub record SiteValue : Type 0 where
   pub pass : PassValue
   pub name : List ℕ
   pub snapshot : Snapshot
   pub changes : Changes
   pub config : ShownConfig
+  pub leave : Bool
   pub changed : ℕ
   pub looked : Looked
 
@@ -62,10 +66,12 @@ pub record SiteShows (site : SiteValue) (shown : List Event) : Type 0 where
   pub kept : KeepsNewest site.changes (changes_of shown)
   pub changed_is : site.changed ≡ last_version (changes_of shown)
 
--- A site after its first look: it has this name and this configuration, and shows all that its pass has seen.
-pub record IsFirst (site : SiteValue) (name : List ℕ) (config : ShownConfig) : Type 0 where
+-- A site after its first look: it has this name and this configuration, its node may be asked to leave or may not, and
+-- it shows all that its pass has seen.
+pub record IsFirst (site : SiteValue) (name : List ℕ) (config : ShownConfig) (leave : Bool) : Type 0 where
   pub name_is : site.name ≡ name
   pub config_is : site.config ≡ config
+  pub leave_is : site.leave ≡ leave
   pub shows : SiteShows site site.pass.seen
 
 -- What a site answers to a path and a query: the text of what it shows, of all changes of the events that it shows, and
@@ -78,9 +84,13 @@ pub record IsAnswerOf
   pub is : (events : List Event) → SiteShows site events
       → answer_value answer ≡ answer_to site.snapshot (changes_of events) site.config path query
 
+-- What a site answers to a request whose method is neither GET nor HEAD: only one to leave has an answer.
+abbrev pub IsActOf : SiteValue → AskedValue → Option HttpAnswer → Type 0
+IsActOf site asked answer = option_map answer_value answer ≡ act_answer site.name site.leave asked
+
 -- A later state of a site. Its pass made nothing but looks. The events that it shows begin with those that it showed
 -- before, so their changes begin with the changes from before: none is lost, and none comes a second time. Its version
--- never falls, and its name and its configuration are as they were.
+-- never falls, and its name, its configuration and whether its node may be asked to leave are as they were.
 pub record IsLater (before after : SiteValue) : Type 0 where
   pub looked : OnlyLooked before.pass after.pass
   pub shows : (shown : List Event) → SiteShows before shown
@@ -88,3 +98,4 @@ pub record IsLater (before after : SiteValue) : Type 0 where
   pub version_rises : before.snapshot.version ≤ after.snapshot.version
   pub name_is : after.name ≡ before.name
   pub config_is : after.config ≡ before.config
+  pub leave_is : after.leave ≡ before.leave

@@ -12,6 +12,7 @@ later_itself site = record {
   version_rises = omega arith;
   name_is = refl;
   config_is = refl;
+  leave_is = refl;
 }
 
 pub shows_through : (a b c : SiteValue) → IsLater a b → IsLater b c
@@ -28,4 +29,5 @@ later_on a b c p q = record {
   version_rises = omega (arith, p.version_rises, q.version_rises);
   name_is = q.name_is ∙ p.name_is;
   config_is = q.config_is ∙ p.config_is;
+  leave_is = q.leave_is ∙ p.leave_is;
 }

@@ -10,6 +10,7 @@ invariant_of-self g c =
       snapshot = c.self.inside.snapshot;
       changes = c.self.inside.changes;
       config = c.self.inside.basis.config;
+      leave = c.self.inside.basis.leave;
       changed = c.self.inside.changed;
       looked = c.self.inside.looked;
     } in
@@ -25,6 +26,7 @@ returns g c =
       snapshot = c.self.inside.snapshot;
       changes = c.self.inside.changes;
       config = c.self.inside.basis.config;
+      leave = c.self.inside.basis.leave;
       changed = c.self.inside.changed;
       looked = c.self.inside.looked;
     } in

@@ -7,7 +7,7 @@ invariant_of-result g c =
     let seen = c.overview.new.self.seen in
     let is = c.in-Ok.ensures.0 in (
       seen,
-      shows_first c.overview.new.self c.args.basis.counters.now.name c.args.basis.config c.in-Ok-first_shown.snapshot
+      shows_first c.overview.new.self c.args.basis.counters.now.name c.args.basis.config c.args.basis.leave c.in-Ok-first_shown.snapshot
           c.in-Ok-first_shown.changes c.last_version-changed.result c.in-Ok.ensures.1.accepted
           (c.in-Ok-first_shown.ensures.shown seen is) (c.in-Ok-first_shown.ensures.kept seen is) c.last_version-changed.ensures,
     )
@@ -19,7 +19,8 @@ returns-clause-first g c =
     record {
       name_is = refl;
       config_is = refl;
-      shows = shows_first c.overview.new.self c.args.basis.counters.now.name c.args.basis.config c.in-Ok-first_shown.snapshot
+      leave_is = refl;
+      shows = shows_first c.overview.new.self c.args.basis.counters.now.name c.args.basis.config c.args.basis.leave c.in-Ok-first_shown.snapshot
           c.in-Ok-first_shown.changes c.last_version-changed.result c.in-Ok.ensures.1.accepted
           (c.in-Ok-first_shown.ensures.shown seen is) (c.in-Ok-first_shown.ensures.kept seen is) c.last_version-changed.ensures;
     }
