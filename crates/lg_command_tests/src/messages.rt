@@ -256,7 +256,7 @@ const ENDS: &[(Why, &str)] = &[
 const NODES: &[(NodeFault, &str)] = &[
     (
         NodeFault::Socket(ErrorKind::AddrInUse),
-        "the socket can't be bound to the configured address",
+        "the socket can't be bound to its address",
     ),
     (NodeFault::Clock, "the machine's clock can't be read"),
     (NodeFault::Refused(Refusal::NoMemory), "memory was refused"),

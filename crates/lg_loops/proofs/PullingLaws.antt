@@ -5,10 +5,9 @@ use Rattle.std.specs.List.{flat_map, filter, items_where_true}
 use Rattle.std.specs.List.Retain.{IsFiltered, ReturnsInTurn}
 use Rattle.std.proofs.Math.Nat.{mod-add-mod, mod-mod, zero-mod}
 use Rattle.std.proofs.lemmas.Nat.{mod_below}
-use Rattle.std.proofs.lemmas.List.{drop_more, drop_all, length-map, get_or-map}
+use Rattle.std.proofs.lemmas.List.{drop_more, drop_all}
 use Rattle.std.proofs.lemmas.List.Concat.{flat_map-append}
 use Rattle.lg_rules.specs.declared.addr.Addr.{Addr}
-use Rattle.lg_timing.specs.declared.config.Seed.{Seed}
 use Rattle.lg_detector.specs.declared.event.Event.{Event}
 use Rattle.lg_agent.specs.declared.receipt.Receipt.{Receipt}
 use Rattle.lg_loops.specs.declared.agenda.Agenda.{Agenda}
@@ -16,7 +15,7 @@ use Rattle.lg_turns.specs.declared.plan.Plan.{Plan}
 use Rattle.lg_turns.specs.Meaning.Turns.{Turn}
 use Rattle.lg_turns.specs.Meaning.Turns.Turn.{Looked, Unlooked, Departed}
 use Rattle.lg_turns.specs.Meaning.Leaving.{lingering}
-use Rattle.lg_turns.specs.Meaning.Pulling.{addrs, looks_in, last_moment, askings, askings_from, askings_after, seed_turns, waiting, waiting_from, look_ms, AreTimely, IsFirstWaiting, IsLookTime, IsAskingTime, IsIdleTime, MayAskMember, MayAskInTurn}
+use Rattle.lg_turns.specs.Meaning.Pulling.{looks_in, last_moment, askings, askings_from, askings_after, seed_turns, waiting, waiting_from, look_ms, AreTimely, IsFirstWaiting, IsLookTime, IsAskingTime, IsIdleTime, MayAskMember, MayAskInTurn}
 use Rattle.lg_loops.specs.Support.Acted.{IsAgenda, IsAsking, IsNextAgenda, IsAskingDue, IsSeedNext, IsMemberNext, IsNoLook, IsNoAsking, agenda_at, waiting_by}
 use Rattle.lg_loops.proofs.LeavingLaws.{none_ever, no_distance}
 
@@ -39,17 +38,17 @@ askings-append moments (u ∷ turns) t = askings-append (askings moments u) turn
 
 -- the agenda after one more turn
 pub agenda_more : (plan : Plan) (since : ℕ) (before : List Turn) (t : Turn) (a b : Agenda) → IsAgenda plan since before a
-    → b.looked ≡ last_moment a.looked (looks_in t) → IsAsking plan (askings (askings_after since before) t) b → waiting_by plan b ≡ waiting (addrs plan.seeds.items) (waiting_by plan a) t
+    → b.looked ≡ last_moment a.looked (looks_in t) → IsAsking plan (askings (askings_after since before) t) b → waiting_by plan b ≡ waiting plan.seeds.items (waiting_by plan a) t
     → IsAgenda plan since (before ++ t ∷ []) b
 agenda_more plan since before t a b was looked asking waits = record {
   looked = looked ∙ (ap (λ n. last_moment n (looks_in t)) was.looked ∙ sym (last_more looks_in since before t));
   asking = subst (λ (ms : List ℕ). IsAsking plan ms b) (sym (askings-append (since ∷ []) before t)) asking;
-  waits = waits ∙ (ap (λ (l : List Addr). waiting (addrs plan.seeds.items) l t) was.waits ∙ sym (waiting-append (addrs plan.seeds.items) [] before t));
+  waits = waits ∙ (ap (λ (l : List Addr). waiting plan.seeds.items l t) was.waits ∙ sym (waiting-append plan.seeds.items [] before t));
 }
 
 -- a turn in which nothing is noted
 pub agenda_same : (plan : Plan) (since : ℕ) (before : List Turn) (t : Turn) (a : Agenda) → IsAgenda plan since before a
-    → a.looked ≡ last_moment a.looked (looks_in t) → askings (askings_after since before) t ≡ askings_after since before → waiting_by plan a ≡ waiting (addrs plan.seeds.items) (waiting_by plan a) t
+    → a.looked ≡ last_moment a.looked (looks_in t) → askings (askings_after since before) t ≡ askings_after since before → waiting_by plan a ≡ waiting plan.seeds.items (waiting_by plan a) t
     → IsAgenda plan since (before ++ t ∷ []) a
 agenda_same plan since before t a was looked same waits = agenda_more plan since before t a a was looked (subst (λ (ms : List ℕ). IsAsking plan ms a) (sym same) was.asking) waits
 
@@ -76,10 +75,10 @@ asking_next plan moments now a b was is =
 
 -- the agenda after a turn in which a table was asked for in turn, or was to be
 pub agenda_next : (plan : Plan) (since : ℕ) (before : List Turn) (t : Turn) (now : ℕ) (a b : Agenda) → IsAgenda plan since before a → IsNextAgenda plan now a b
-    → a.looked ≡ last_moment a.looked (looks_in t) → askings (askings_after since before) t ≡ now ∷ askings_after since before → waiting_by plan a ≡ waiting (addrs plan.seeds.items) (waiting_by plan a) t
+    → a.looked ≡ last_moment a.looked (looks_in t) → askings (askings_after since before) t ≡ now ∷ askings_after since before → waiting_by plan a ≡ waiting plan.seeds.items (waiting_by plan a) t
     → IsAgenda plan since (before ++ t ∷ []) b
 agenda_next plan since before t now a b was is looked asks waits =
-    agenda_more plan since before t a b was (is.looked ∙ looked) (subst (λ (ms : List ℕ). IsAsking plan ms b) (sym asks) (asking_next plan (askings_after since before) now a b was.asking is)) (ap (λ (n : ℕ). drop n (addrs plan.seeds.items)) is.asked ∙ waits)
+    agenda_more plan since before t a b was (is.looked ∙ looked) (subst (λ (ms : List ℕ). IsAsking plan ms b) (sym asks) (asking_next plan (askings_after since before) now a b was.asking is)) (ap (λ (n : ℕ). drop n plan.seeds.items) is.asked ∙ waits)
 
 pub timely_join : (plan : Plan) (since : ℕ) (before ts us : List Turn) → AreTimely plan since before ts → AreTimely plan since (before ++ ts) us → AreTimely plan since before (ts ++ us)
 timely_join plan since before [] us one two = subst (λ (l : List Turn). AreTimely plan since l us) (append-nil before) two
@@ -87,29 +86,19 @@ timely_join plan since before (t ∷ ts) us one two =
     (one.0, timely_join plan since (before ++ t ∷ []) ts us one.1 (subst (λ (l : List Turn). AreTimely plan since l us) (sym (append_assoc before (t ∷ []) ts)) two))
 
 -- none of the seeds waits
-pub none_waits : (seeds : List Seed) (n : ℕ) → length seeds ≤ n → drop n (addrs seeds) ≡ []
-none_waits seeds n all = drop_all n (addrs seeds) (rw (length-map seeds (λ (s : Seed). s.addr)) all)
+pub none_waits : (seeds : List Addr) (n : ℕ) → length seeds ≤ n → drop n seeds ≡ []
+none_waits seeds n all = drop_all n seeds all
 
--- and if one does, the first is this one
-pub first_waits : (seeds : List Seed) (n : ℕ) (s : Seed) → n < length seeds → s ≡ get_or seeds n s → drop n (addrs seeds) ≡ s.addr ∷ drop (n + 1) (addrs seeds)
-first_waits seeds n s in_range is =
-    let there : n < length (addrs seeds) = rw (length-map seeds (λ (s : Seed). s.addr)) in_range in
-    let one : get_or (addrs seeds) n s.addr ≡ s.addr = get_or-map (λ (s : Seed). s.addr) seeds n s s.addr in_range ∙ ap (λ (s : Seed). s.addr) (sym is) in
-    drop_more (addrs seeds) n s.addr there ∙ ap (λ (x : Addr). x ∷ drop (n + 1) (addrs seeds)) one
+-- and if one does, the first is the one with this number
+pub first_waits : (seeds : List Addr) (n : ℕ) (d : Addr) → n < length seeds → drop n seeds ≡ get_or seeds n d ∷ drop (n + 1) seeds
+first_waits seeds n d there = drop_more seeds n d there
 
 -- the seed whose turn it is, by its number
-pub next_seed_is : (plan : Plan) (a : Agenda) (d : Seed) → a.is_seeds_turn ≡ true → 0 < length plan.seeds.items → IsSeedNext plan a (get_or plan.seeds.items (a.next_seed % length plan.seeds.items) d).addr
+pub next_seed_is : (plan : Plan) (a : Agenda) (d : Addr) → a.is_seeds_turn ≡ true → 0 < length plan.seeds.items → IsSeedNext plan a (get_or plan.seeds.items (a.next_seed % length plan.seeds.items) d)
 next_seed_is plan a d turn some =
-    let seeds : List Seed = plan.seeds.items in
+    let seeds : List Addr = plan.seeds.items in
     let n : ℕ = a.next_seed % length seeds in
-    let below : n < length seeds = mod_below a.next_seed (length seeds) some in
-    let there : n < length (addrs seeds) = rw (length-map seeds (λ (s : Seed). s.addr)) below in
-    record {
-      turn = turn;
-      some = some;
-      rest = drop (n + 1) (addrs seeds);
-      is = drop_more (addrs seeds) n d.addr there ∙ ap (λ (x : Addr). x ∷ drop (n + 1) (addrs seeds)) (get_or-map (λ (s : Seed). s.addr) seeds n d d.addr below);
-    }
+    record { turn = turn; some = some; rest = drop (n + 1) seeds; is = first_waits seeds n d (mod_below a.next_seed (length seeds) some) }
 
 -- the seed that is asked is the first that waits, and then it waits no longer
 pub seed_first : (plan : Plan) (since : ℕ) (before : List Turn) (a : Agenda) (peer : Addr) → IsAgenda plan since before a → waiting_by plan a ≡ peer ∷ waiting_by plan (record a { asked = a.asked + 1 })
@@ -118,7 +107,7 @@ seed_first plan since before a peer was is = (waiting_by plan (record a { asked 
 
 -- the agenda after a turn in which a seed that waited was asked
 pub seed_noted : (plan : Plan) (since : ℕ) (before : List Turn) (t : Turn) (a : Agenda) (peer : Addr) → IsAgenda plan since before a
-    → a.looked ≡ last_moment a.looked (looks_in t) → askings (askings_after since before) t ≡ askings_after since before → waiting (addrs plan.seeds.items) (waiting_by plan a) t ≡ drop 1 (waiting_by plan a)
+    → a.looked ≡ last_moment a.looked (looks_in t) → askings (askings_after since before) t ≡ askings_after since before → waiting plan.seeds.items (waiting_by plan a) t ≡ drop 1 (waiting_by plan a)
     → waiting_by plan a ≡ peer ∷ waiting_by plan (record a { asked = a.asked + 1 }) → IsAgenda plan since (before ++ t ∷ []) (record a { asked = a.asked + 1 })
 seed_noted plan since before t a peer was looked same one is =
     let w = was.asking in
@@ -154,7 +143,7 @@ seed_time plan since before a now peer low was is =
     record {
       early = low;
       time = asking_time plan since before a now was is.0;
-      seed = rw was.asking.are (record { is_seeds = sym was.asking.turn ∙ is.1.turn; rest = is.1.rest; is = sym (ap (λ (x : ℕ). drop x (addrs plan.seeds.items)) number) ∙ is.1.is });
+      seed = rw was.asking.are (record { is_seeds = sym was.asking.turn ∙ is.1.turn; rest = is.1.rest; is = sym (ap (λ (x : ℕ). drop x plan.seeds.items) number) ∙ is.1.is });
     }
 
 pub idle_time : (plan : Plan) (since : ℕ) (before : List Turn) (a : Agenda) (now : ℕ) → IsAgenda plan since before a → (waiting_by plan a ≡ []) × IsNoLook plan a now × IsNoAsking plan a now → IsIdleTime plan since before now

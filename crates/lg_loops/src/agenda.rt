@@ -129,7 +129,7 @@ impl Agenda {
         if !self.is_seeds_turn || count == 0 {
             return None;
         }
-        Some(plan.seeds[self.next_seed % count].addr)
+        Some(plan.seeds[self.next_seed % count])
     }
 
     /// What is to be done at a moment.
@@ -137,7 +137,7 @@ impl Agenda {
         ensures { IsDuty plan.now self.now now result }
     {
         if self.asked < plan.seeds.len() {
-            return Duty::Seed(plan.seeds[self.asked].addr);
+            return Duty::Seed(plan.seeds[self.asked]);
         }
         let look = self.until_look(plan, now);
         if look == 0 {

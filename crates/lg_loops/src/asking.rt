@@ -14,7 +14,8 @@ use crate::{NodeLoops, calling};
 use lg_agent::{AgentName, Pass, Refusal};
 use lg_clock::Clock;
 use lg_detector::Reply;
-use lg_timing::{MAX_SEEDS, Seed};
+use lg_rules::Addr;
+use lg_timing::MAX_SEEDS;
 use lg_turns::{Link, SeedAsker, Shared};
 use std::sync::Wait;
 
@@ -23,13 +24,13 @@ impl SeedAsker for NodeLoops {
         shared: &Shared<'_, R, C>,
         pass: &mut Pass<'_, A>,
         link: &mut L,
-        seeds: &[Seed],
+        seeds: &[Addr],
     ) -> Result<u64, Refusal> {
         let mut unsent = 0;
         let mut reply = Reply::default();
         for seed in seeds {
             let now = shared.clock.now();
-            calling::pull(shared, pass, now, seed.addr, &mut reply)?;
+            calling::pull(shared, pass, now, *seed, &mut reply)?;
             unsent += Turned::of(shared, link, now, &reply).unsent;
         }
         Ok(unsent)

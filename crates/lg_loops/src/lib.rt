@@ -1,5 +1,5 @@
-//! The two loops of a node over an agent: one hears datagrams, and one ticks and finds its group. What they are given and
-//! give, and what a turn of theirs is, stands in `lg_turns`. Their caller starts the threads in which they run.
+//! The two loops of a node over an agent: one hears datagrams, and one ticks and finds its group. What they are given
+//! and give, and what a turn of theirs is, stands in `lg_turns`. Their caller starts the threads in which they run.
 #![tactic(auto)]
 
 mod agenda;

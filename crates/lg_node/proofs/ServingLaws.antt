@@ -14,12 +14,12 @@ use Rattle.lg_node.specs.Meaning.Nodes.{DidServe}
 
 -- a server that shows the configuration and the settings of a node serves the node
 pub did_serve : (config : Config) (settings : Settings) (before after : PassValue) (end : Served) (name : List ℕ) (shown : ShownConfig) (hosts : Hosts) (server server' : Server)
-    → name ≡ config.name → hosts ≡ hosts_of settings.status → Shows config settings shown → ServedAs end name shown hosts before after server server'
+    → name ≡ config.name → hosts ≡ hosts_of settings.status → Shows config settings shown → ServedAs end name shown settings.leave hosts before after server server'
     → DidServe config settings before after server server' end
 did_serve config settings before after (served.Refused refusal) name shown hosts server server' named are shows did = (did.1, did.2)
 did_serve config settings before after (served.Ended end counts) name shown hosts server server' named are shows did = (
   shown,
   shows,
-  subst (λ (h : Hosts). ServedAs (served.Ended end counts) config.name shown h before after server server') are
-      (subst (λ (n : List ℕ). ServedAs (served.Ended end counts) n shown hosts before after server server') named did),
+  subst (λ (h : Hosts). ServedAs (served.Ended end counts) config.name shown settings.leave h before after server server') are
+      (subst (λ (n : List ℕ). ServedAs (served.Ended end counts) n shown settings.leave hosts before after server server') named did),
 )

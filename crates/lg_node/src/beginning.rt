@@ -57,7 +57,8 @@ where
         (line [] (failures_of r.sides.receiver.link)) (line [] (failures_of r.sides.ticker.link))
         r.sides.receiver.pass r.sides.ticker.pass r.asker r.server.pass r.unsent) }
     ensures plan { IfOk result (λ r. r.sides.plan
-        ≡ plan_of setup.now.config.now setup.now.settings.now.pull_ms setup.now.until) }
+        ≡ plan_of setup.now.config.now setup.now.settings.now.seeds.items setup.now.settings.now.pull_ms
+        setup.now.until) }
     ensures dice { IfOk result (λ r. r.sides.dice ≡ seeded setup.now.settings.now.dice) }
     ensures told { IfOk result (λ r. (r.server.config.now ≡ setup.now.config.now)
         × (r.server.settings.now ≡ setup.now.settings.now) × (r.server.server ≡ server.entry)) }
@@ -70,7 +71,7 @@ where
         return Err(Refusal::NoMemory);
     };
     let mut sends = link_of(shared.counters, setup);
-    let unsent = match O::ask_each(shared, &mut passes.asker, &mut sends, &setup.config.seeds) {
+    let unsent = match O::ask_each(shared, &mut passes.asker, &mut sends, &setup.settings.seeds) {
         Ok(unsent) => unsent,
         Err(refusal) => {
             drop(server);
@@ -90,7 +91,12 @@ where
         Side::new(receiver, link_of(shared.counters, setup)),
         Side::new(ticker, sends),
         PcgDice::new(setup.settings.dice),
-        Plan::new(setup.config, setup.settings.pull_ms, setup.until),
+        Plan::new(
+            setup.config,
+            &setup.settings.seeds,
+            setup.settings.pull_ms,
+            setup.until,
+        ),
     );
     let server = ServerSide {
         config: setup.config,

@@ -9,13 +9,14 @@ ghost use Rattle.lg_node.specs.Meaning.Nodes.{IsRun, IsEarly, TellsServed};
 use crate::serving::status_server;
 use crate::sockets::Sockets;
 use crate::start::{Setup, open_and_serve};
+use arrayvec::ArrayVec;
 use lg_agent::{CloseFault, Closed, Refusal};
 use lg_follow::Watched;
 use lg_rules::{Addr, Record};
 use lg_seal::Keys;
 use lg_status_server::Served;
 use lg_text::FaultStream;
-use lg_timing::{Config, Moment};
+use lg_timing::{Config, MAX_SEEDS, Moment};
 use lg_turns::{LoopEnd, ReceivingLoop, SeedAsker, TickingLoop};
 use lg_view::UnnamedBook;
 use std::alloc::Global;
@@ -30,8 +31,12 @@ use std::thread::Threads;
 use thiserror::Error;
 
 /// What a node is told besides its configuration.
-#[derive(Clone, Copy, Debug)]
+#[derive(Debug, Drop)]
 pub struct Settings {
+    /// Where its socket for datagrams is bound. Others are told the address of the configuration.
+    pub bind: Addr,
+    /// The addresses of its seeds: those that it asks for their tables, in this order.
+    pub seeds: ArrayVec<Addr, MAX_SEEDS>,
     /// The number that seeds its random words.
     pub dice: u64,
     /// How long it is from one Pull for a member that random words choose to the next, in milliseconds. With 0 there is
@@ -46,6 +51,8 @@ pub struct Settings {
     pub status: Option<Addr>,
     /// Whether that may be an address that isn't loopback. It is only shown: the node listens where it is told to.
     pub status_open: bool,
+    /// Whether a request over HTTP may end it ([`serve`](lg_status_server::serve)).
+    pub leave: bool,
     /// The keys of its group, if the group has any. The node then sends and takes only sealed datagrams
     /// ([`KeyedLink`](crate::KeyedLink)), and counts those that it drops for the status server.
     pub keys: Option<Keys>,
@@ -89,8 +96,8 @@ pub struct NodeEnd {
 /// Why a node ended before its loops.
 #[derive(Clone, Copy, Debug, PartialEq, Eq, Error)]
 pub enum NodeFault {
-    /// The socket couldn't be bound to the configured address. This is the kind of the error.
-    #[error("the socket can't be bound to the configured address")]
+    /// The socket couldn't be bound to its address. This is the kind of the error.
+    #[error("the socket can't be bound to its address")]
     Socket(ErrorKind),
     /// The status server couldn't be bound to its address, or watched. This is the kind of the error.
     #[error("the status server can't be bound to its address")]
@@ -106,8 +113,8 @@ pub enum NodeFault {
 /// Runs a node over UDP until a moment, in milliseconds from its start, until somebody sets the stop flag, or until one
 /// of its loops ends before that.
 ///
-/// It binds a socket to the configured address, opens an agent with four passes, and asks each seed for its table, in
-/// order. Then it runs [`join_threads`](crate::join_threads) with the steady clock
+/// It binds a socket to the address of the settings, opens an agent with four passes, and asks each seed for its table,
+/// in order. Then it runs [`join_threads`](crate::join_threads) with the steady clock
 /// ([`SteadyClock`](lg_clock::SteadyClock)), the words of [`PcgDice`](crate::PcgDice), and loops that are endless. So
 /// the ticking loop asks the seeds until a Page is heard, and again while it is alone. It asks a seed and a member in
 /// turn, soon at first and then every `pull_ms`. At the end the members are read, and the agent is closed. A node that
@@ -161,7 +168,7 @@ where
     ensures told { IfOk result (λ e. TellsServed e.served (F.reported faults.old) (F.reported faults.new)) }
     ensures untold { OnErr result (faults.new ≡ faults.old) }
 {
-    let sockets = match Sockets::bind(rt, alloc, start.config, start.settings) {
+    let sockets = match Sockets::bind(rt, alloc, start.settings) {
         Ok(sockets) => sockets,
         Err(fault) => return Err(fault),
     };

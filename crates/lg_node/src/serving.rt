@@ -134,6 +134,8 @@ fn serve_with<'p, A: AgentName, R: rt::Clock, C: Clock>(
         clock: shared.clock,
         counters: shared.counters,
         config: shown,
+        stop: shared.stop,
+        leave: settings.leave,
     };
     let hosts = hosts_of(settings.status);
     serve(

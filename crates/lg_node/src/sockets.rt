@@ -11,7 +11,6 @@ use crate::node::{NodeFault, Settings};
 use lg_http::{Server, Signal};
 use lg_rules::Addr;
 use lg_status_server::bind;
-use lg_timing::Config;
 use std::alloc::Global;
 use std::net::{Net, SocketAddr, UdpSocket};
 use std::random::RandomSource;
@@ -35,11 +34,10 @@ fn bind_socket<R: Net>(rt: &R, addr: Addr) -> Result<UdpSocket, NodeFault>
 }
 
 impl Sockets {
-    /// Binds a socket to the configured address, and then a status server if the settings have an address for one.
+    /// Binds a socket to the address of the settings, and then a status server if they have an address for one.
     pub(crate) fn bind<R: Net + RandomSource>(
         rt: &R,
         alloc: Global,
-        config: &Config,
         settings: &Settings,
     ) -> Result<Sockets, NodeFault>
         ensures server { IfOk result (λ sockets. is_some sockets.server ≡ is_some settings.now.status) }
@@ -47,7 +45,7 @@ impl Sockets {
         ensures free { IfOk result (λ sockets. IfSome sockets.server (λ server. AreFree (slots_of server))) }
         ensures early { (config : Opened) → IfErr result (IsEarly config) }
     {
-        let socket = match bind_socket(rt, config.addr) {
+        let socket = match bind_socket(rt, settings.bind) {
             Ok(socket) => socket,
             Err(fault) => return Err(fault),
         };

@@ -213,12 +213,15 @@ pub struct BothSeen {
 /// The settings of a node that nobody asks.
 fn settings_of(follow: bool) -> Settings {
     Settings {
+        bind: local(7000),
+        seeds: ArrayVec::new(),
         dice: 1,
         pull_ms: 0,
         stall_ms: 0,
         follow,
         status: None,
         status_open: false,
+        leave: true,
         keys: None,
     }
 }

@@ -1,4 +1,5 @@
 //! A node with a status server, whose loops end at once.
+use arrayvec::ArrayVec;
 use lg_loops::NodeLoops;
 use lg_node::{NodeStart, Served, Settings, run_node};
 use lg_testing::{Room, at, letter, local};
@@ -34,12 +35,15 @@ where
     let config = Config::new(letter(b'b'), local(port));
     config.check().ok()?;
     let settings = Settings {
+        bind: config.addr,
+        seeds: ArrayVec::new(),
         dice: 1,
         pull_ms: 0,
         stall_ms: 0,
         follow: false,
         status: Some(local(ANY_PORT)),
         status_open: false,
+        leave: true,
         keys: None,
     };
     let stop = AtomicBool::new(false);

@@ -1,7 +1,7 @@
-//! What the loops of a node are given and give, and what a turn of theirs is: their links, their dice, what they share, how
-//! they end, and the definitions of all this. Three traits say what a node's start needs of the loops ([`SeedAsker`],
-//! [`TickingLoop`] and [`ReceivingLoop`]). The loops themselves
-//! stand in `lg_loops`, and the start in `lg_node`.
+//! What the loops of a node are given and give, and what a turn of theirs is: their links, their dice, what they share,
+//! how they end, and the definitions of all this. Three traits say what a node's start needs of the loops
+//! ([`SeedAsker`], [`TickingLoop`] and [`ReceivingLoop`]). The loops themselves stand in `lg_loops`, and the start in
+//! `lg_node`.
 #![tactic(auto)]
 
 mod changes;

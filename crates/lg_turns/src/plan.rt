@@ -8,17 +8,17 @@ ghost use Rattle.lg_turns.specs.Meaning.Leaving.{lingering};
 ghost use Rattle.lg_turns.specs.Meaning.Pulling.{plan_of};
 
 use arrayvec::ArrayVec;
-use lg_rules::{Name, Version};
-use lg_timing::{Config, MAX_MOMENT, MAX_SEEDS, Moment, Seed};
+use lg_rules::{Addr, Name, Version};
+use lg_timing::{Config, MAX_MOMENT, MAX_SEEDS, Moment};
 
 /// What a ticking loop does besides its ticks, until when, and whether this member leaves its group then.
 #[derive(Drop)]
 pub struct Plan {
     /// This member's name. It isn't asked.
     pub name: Name,
-    /// The seeds. They are asked until a Page is heard, and again while no other member is known that isn't gone. In
-    /// turn with members they are asked for ever.
-    pub seeds: ArrayVec<Seed, MAX_SEEDS>,
+    /// The addresses of the seeds. They are asked until a Page is heard, and again while no other member is known that
+    /// isn't gone. In turn with members they are asked for ever.
+    pub seeds: ArrayVec<Addr, MAX_SEEDS>,
     /// The interval of the member's probes, in milliseconds. So long after its beginning the loop asks for a table for
     /// the first time, and so long it goes on once the member has left.
     pub interval_ms: u64,
@@ -39,22 +39,23 @@ fn moment_behind(now: Moment, milliseconds: u64) -> Moment
 }
 
 impl Plan {
-    /// The plan of a node with this configuration. It leaves at its end if it writes its packets in version 3, the only
-    /// one that can tell this.
-    pub fn new(config: &Config, pull_ms: u64, until: Moment) -> Plan
-        ensures { result ≡ plan_of config.now pull_ms until }
+    /// The plan of a node with this configuration, whose seeds have these addresses. It leaves at its end if it writes
+    /// its packets in version 3, the only one that can tell this.
+    pub fn new(
+        config: &Config,
+        seeds: &ArrayVec<Addr, MAX_SEEDS>,
+        pull_ms: u64,
+        until: Moment,
+    ) -> Plan
+        ensures { result ≡ plan_of config.now seeds.now.items pull_ms until }
     {
         let leaves = matches!(config.version(), Version::Three);
-        let Config {
-            name,
-            seeds,
-            interval_ms,
-            ..
-        } = config.copy();
+        let mut asked = ArrayVec::new();
+        asked.try_extend_from_slice(seeds).unwrap();
         Plan {
-            name,
-            seeds,
-            interval_ms,
+            name: config.name,
+            seeds: asked,
+            interval_ms: config.interval_ms,
             pull_ms,
             until,
             leaves,

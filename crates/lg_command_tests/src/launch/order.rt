@@ -1,6 +1,7 @@
 //! What is told of a node's end, and what is told first.
 ghost use Rattle.lg_timing.specs.Meaning.Config.{IsChecked};
 
+use arrayvec::ArrayVec;
 use lg_agent::{CloseFault, Refusal};
 use lg_loops::NodeLoops;
 use lg_node::{NodeEnd, NodeFault, NodeStart, Settings, Why, run_node};
@@ -192,12 +193,15 @@ where
     R: Wait + Threads + Net + rt::Clock + RandomSource + Sync,
 {
     let settings = Settings {
+        bind: config(0).addr,
+        seeds: ArrayVec::new(),
         dice: 1,
         pull_ms: 0,
         stall_ms: 0,
         follow: false,
         status: None,
         status_open: false,
+        leave: true,
         keys: None,
     };
     let stop = AtomicBool::new(false);

@@ -11,14 +11,14 @@ use Rattle.lg_turns.specs.declared.plan.Plan.{Plan}
 use Rattle.lg_loops.specs.declared.turned.Turned.{Turned}
 use Rattle.lg_turns.specs.Meaning.Turns.{Turn, LinkValue, is_of_ticking}
 use Rattle.lg_turns.specs.Meaning.Leaving.{next_plan}
-use Rattle.lg_turns.specs.Meaning.Pulling.{addrs, look_ms, looks_in, last_moment, waiting_after, IsTimely}
+use Rattle.lg_turns.specs.Meaning.Pulling.{look_ms, looks_in, last_moment, waiting_after, IsTimely}
 use Rattle.lg_turns.specs.Meaning.Pulling.{askings_after, asking_distance, is_seeds_turn, seed_turns}
 use Rattle.lg_turns.specs.Meaning.Pausing.{look_left, asking_left, least_time}
 use Rattle.lg_loops.specs.Support.Took.{Took}
 
 -- the seeds that wait by an agenda
 abbrev pub waiting_by : Plan → Agenda → List Addr
-waiting_by plan a = drop a.asked (addrs plan.seeds.items)
+waiting_by plan a = drop a.asked plan.seeds.items
 
 -- what an agenda notes of the moments of asking in turn, the latest first
 pub record IsAsking (plan : Plan) (moments : List ℕ) (a : Agenda) : Type 0 where
@@ -75,7 +75,7 @@ pub record IsSeedNext (plan : Plan) (a : Agenda) (peer : Addr) : Type 0 where
   pub turn : a.is_seeds_turn ≡ true
   pub some : 0 < length plan.seeds.items
   pub rest : List Addr
-  pub is : drop (a.next_seed % length plan.seeds.items) (addrs plan.seeds.items) ≡ peer ∷ rest
+  pub is : drop (a.next_seed % length plan.seeds.items) plan.seeds.items ≡ peer ∷ rest
 
 abbrev pub IsMemberNext : Plan → Agenda → Type 0
 IsMemberNext plan a = (length plan.seeds.items ≡ 0) ⊎ (a.is_seeds_turn ≡ false)

@@ -2,6 +2,7 @@
 use Rattle.std.specs.Prelude.{◌≡◌, ◌<◌, ◌⊎◌, ℕ, ◌+◌, ◌^◌, Bool, true, false, List, [], ◌∷◌}
 use Rattle.std.specs.Prelude.{Option, Some, None, is_some, Result, MatchResult, Vec}
 use Rattle.std.specs.declared.alloc.Global.{Global}
+use Rattle.lg_rules.specs.declared.addr.Addr.{Addr}
 use Rattle.lg_rules.specs.declared.claim.Claim.{Claim}
 use Rattle.lg_timing.specs.declared.config.Config.{Config}
 use Rattle.lg_text.specs.Meaning.Reporting.{Reported, Reports}
@@ -54,21 +55,21 @@ pub record AreLinks (settings : Settings) (hears sends : LinkValue) : Type 0 whe
   pub ticking_is : sends ≡ line [] (failures_of ticking)
   pub ticking_unfailed : failures_of ticking ≡ 0
 
--- One pass asked the seeds, and then both loops ran, each with a pass of its own. The ticking loop ran over the link by
--- which the seeds were asked. Each turn of receiving waited at most so many milliseconds. When the ticking loop was
--- told to stop or its end time came, this member left its group if it writes its packets in version 3, and the loop
--- went on for one interval. If no thread could be started, the ticking loop made no turn.
+-- One pass asked the seeds at these addresses, and then both loops ran, each with a pass of its own. The ticking loop
+-- ran over the link by which the seeds were asked. Each turn of receiving waited at most so many milliseconds. When the
+-- ticking loop was told to stop or its end time came, this member left its group if it writes its packets in version 3,
+-- and the loop went on for one interval. If no thread could be started, the ticking loop made no turn.
 pub record HasServed
     {D : Type 0} (throws : D → List ℕ → D → Type 0) (dice : D) (tells : Bool) (bound wait : ℕ) (config : Config)
-    (pull_ms until start : ℕ) (hears hears' sends sends' : LinkValue) (received ticked : LoopEnd)
+    (seeds : List Addr) (pull_ms until start : ℕ) (hears hears' sends sends' : LinkValue) (received ticked : LoopEnd)
     (receiver ticker asker : PassValue)
     : Type 0 where
   pub between : LinkValue
   -- how many packets weren't sent to the seeds, and how many later
   pub unsent : ℕ
   pub later : ℕ
-  pub asked : Asked tells config.seeds.items sends between (fresh_own config start 3) asker unsent
-  pub ran : BothRan wait throws dice (plan_of config pull_ms until) tells bound true
+  pub asked : Asked tells seeds sends between (fresh_own config start 3) asker unsent
+  pub ran : BothRan wait throws dice (plan_of config seeds pull_ms until) tells bound true
       hears hears' (fresh_own config start 1) receiver received
       between sends' (fresh_own config start 2) ticker (record ticked { unsent = later })
   pub counted : later + unsent < 2 ^ 64 → ticked.unsent ≡ later + unsent
@@ -84,14 +85,16 @@ WatchesIf false before after held holds None = after ≡ before
 
 -- What a status server did, from its state `server` to its state `server'`, by how it ended. If its first look was
 -- refused, or memory for what it shows, it served nobody. Otherwise it did what a status server does that shows this
--- configuration and these settings, under the name of the node's member, to the hosts of its address.
+-- configuration and these settings, under the name of the node's member, to the hosts of its address, and lets itself
+-- be asked to leave if the settings say so.
 abbrev pub DidServe :
     Config → Settings → (before after : PassValue) (server server' : Server) → Served → Type 0
 DidServe config settings before after server server' (served.Refused refusal) =
     (server' ≡ server) × ((refusal ≡ NoMemory) ⊎ (refusal ≡ NoView))
 DidServe config settings before after server server' (served.Ended end counts) =
     (shown : ShownConfig) × Shows config settings shown
-    × ServedAs (served.Ended end counts) config.name shown (hosts_of settings.status) before after server server'
+    × ServedAs (served.Ended end counts) config.name shown settings.leave (hosts_of settings.status) before after
+    server server'
 
 -- A status server that began with free slots did this. Its pass only looked, however it ended.
 pub record ServesNode (config : Config) (settings : Settings) (before after : PassValue) (end : Served) : Type 0 where
@@ -133,8 +136,8 @@ pub record HasWorked
   pub watcher : PassValue
   pub links : AreLinks settings hears sends
   pub looped : HasServed DrawsEight (seeded settings.dice) false MAX_TURNS
-      (turn_wait config.timeout_ms (stall_of settings.stall_ms)) config settings.pull_ms until start
-      hears hears' sends sends' received ticked receiver ticker asker
+      (turn_wait config.timeout_ms (stall_of settings.stall_ms)) config settings.seeds.items settings.pull_ms until
+      start hears hears' sends sends' received ticked receiver ticker asker
   pub told : WatchesIf settings.follow asker watcher held holds watched
   pub shown : ServesIf (is_some settings.status) config settings (fresh_own config start 4) status served
   pub read : MatchResult members (λ records. (records.items ≡ view_after reader.seen) × IsLook watcher reader)

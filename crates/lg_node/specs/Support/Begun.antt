@@ -15,7 +15,7 @@ pub record HasBegun
     : Type 0 where
   pub sends : LinkValue
   pub links : AreLinks settings hears sends
-  pub asked : Asked false config.seeds.items sends between (fresh_own config start 3) asker unsent
+  pub asked : Asked false settings.seeds.items sends between (fresh_own config start 3) asker unsent
   pub receiver_is : receiver ≡ fresh_own config start 1
   pub ticker_is : ticker ≡ fresh_own config start 2
   pub status_is : status ≡ fresh_own config start 4

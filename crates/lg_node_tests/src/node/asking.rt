@@ -1,5 +1,6 @@
 //! A node over UDP asks its seeds before its loops run. The ticking loop ends at once. The ports are free ones that the
 //! system gives, so two runs on one machine don't meet.
+use arrayvec::ArrayVec;
 use lg_agent::{CloseFault, Closed};
 use lg_detector::Event;
 use lg_loops::NodeLoops;
@@ -116,13 +117,18 @@ where
     R: Threads + Wait + Net + Clock + RandomSource + Sync,
 {
     config.check().ok()?;
+    let mut asks = ArrayVec::new();
+    asks.extend(config.seeds.iter().map(|seed| seed.addr)).ok()?;
     let settings = Settings {
+        bind: config.addr,
+        seeds: asks,
         dice: 1,
         pull_ms: 0,
         stall_ms: 0,
         follow: false,
         status: None,
         status_open: false,
+        leave: true,
         keys: None,
     };
     let stop = AtomicBool::new(false);

@@ -5,6 +5,7 @@ ghost use Rattle.std.specs.Prelude.{◌≡◌};
 use super::loops::{Noted, WAIT_MS, ticks_until};
 use super::meeting::{Meeting, MeetingLink, StandingClock};
 use super::playing::{Play, Shown, told};
+use arrayvec::ArrayVec;
 use left_right::Absorb;
 use lg_agent::{AgentName, Pass, Spent};
 use lg_agent_testing::{Case, Ending, Left, Outcome};
@@ -96,12 +97,15 @@ impl Text {
 /// The settings of a node that nobody asks.
 fn settings(follow: bool) -> Settings {
     Settings {
+        bind: local(7000),
+        seeds: ArrayVec::new(),
         dice: 1,
         pull_ms: 0,
         stall_ms: 0,
         follow,
         status: None,
         status_open: false,
+        leave: true,
         keys: None,
     }
 }

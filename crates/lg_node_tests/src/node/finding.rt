@@ -91,7 +91,12 @@ impl Search {
 
     /// Whom the loop asks and until when it runs, as in a node of the same configuration.
     fn plan(&self) -> Plan {
-        Plan::new(&config(20_000, self.others), self.pull_ms, at(self.until))
+        let config = config(20_000, self.others);
+        let mut seeds = ArrayVec::new();
+        for seed in &config.seeds {
+            seeds.push(seed.addr);
+        }
+        Plan::new(&config, &seeds, self.pull_ms, at(self.until))
     }
 
     /// Lets b hear who has failed, and at which ports.

@@ -1,6 +1,6 @@
 -- When the ticking loop asks for tables, whom it asks, and how it runs (this project's choice).
 use Rattle.std.specs.Prelude.{◌≡◌, ◌⊎◌, ℕ, ◌+◌, ◌*◌, ◌%◌, ◌<◌, ◌≤◌, min, not, Bool, true, false, if◌then◌else◌}
-use Rattle.std.specs.Prelude.{List, [], ◌∷◌, ◌++◌, length, map, drop, slice_index}
+use Rattle.std.specs.Prelude.{List, [], ◌∷◌, ◌++◌, length, drop, slice_index}
 use Rattle.std.specs.List.{flat_map, list_all}
 use Rattle.lg_rules.specs.declared.addr.Addr.{Addr}
 use Rattle.lg_rules.specs.declared.claim.Claim.{Claim}
@@ -9,7 +9,6 @@ use Rattle.lg_rules.specs.Meaning.Rows.{name_cmp, without_row}
 use Rattle.lg_rules.specs.declared.version.Version.{Version}
 use Rattle.lg_rules.specs.declared.version.Version.TheVariants.{One, Two, Three}
 use Rattle.lg_timing.specs.declared.config.Config.{Config}
-use Rattle.lg_timing.specs.declared.config.Seed.{Seed}
 use Rattle.lg_timing.specs.Meaning.Config.{version_of}
 use Rattle.lg_detector.specs.Meaning.Step.{view_after}
 use Rattle.lg_agent.specs.Meaning.Values.{PassValue}
@@ -45,21 +44,17 @@ leaves_in One = false
 leaves_in Two = false
 leaves_in Three = true
 
--- what the ticking loop of a node does besides its ticks
-abbrev pub plan_of : Config → ℕ → ℕ → Plan
-plan_of config pull_ms until =
+-- what the ticking loop of a node does besides its ticks, whose seeds have these addresses
+abbrev pub plan_of : Config → List Addr → ℕ → ℕ → Plan
+plan_of config seeds pull_ms until =
     record {
       name = config.name;
-      seeds = config.seeds;
+      seeds = record { items = seeds };
       interval_ms = config.interval_ms;
       pull_ms = pull_ms;
       until = until;
       leaves = leaves_in (version_of config);
     }
-
--- the addresses of the seeds
-abbrev pub addrs : List Seed → List Addr
-addrs seeds = map (λ s. s.addr) seeds
 
 -- the records of the others, those of members that are gone too
 abbrev pub others_of : List ℕ → List Claim → List Claim
@@ -142,7 +137,7 @@ waiting_from seeds before (t ∷ turns) = waiting_from seeds (waiting seeds befo
 
 -- after some turns of a loop, at whose beginning none waits
 abbrev pub waiting_after : Plan → List Turn → List Addr
-waiting_after plan turns = waiting_from (addrs plan.seeds.items) [] turns
+waiting_after plan turns = waiting_from plan.seeds.items [] turns
 
 -- It is too early for a look, or there are no seeds and so never one; and too early to ask in turn, or none is asked
 -- so.
@@ -170,7 +165,7 @@ pub record IsAskingTime (plan : Plan) (since : ℕ) (before : List Turn) (now : 
 pub record IsSeedInTurn (plan : Plan) (moments : List ℕ) (peer : Addr) : Type 0 where
   pub is_seeds : is_seeds_turn (drop 1 moments) ≡ true
   pub rest : List Addr
-  pub is : drop (seed_turns (drop 1 moments) % length plan.seeds.items) (addrs plan.seeds.items) ≡ peer ∷ rest
+  pub is : drop (seed_turns (drop 1 moments) % length plan.seeds.items) plan.seeds.items ≡ peer ∷ rest
 
 -- or it is the turn of a member
 abbrev pub IsMembersTurn : Plan → List ℕ → Type 0

@@ -13,7 +13,7 @@ use Rattle.lg_turns.specs.Meaning.Pulling.{is_seeds_turn, seed_turns, IsChosen, 
 abbrev pub plan : Plan
 plan = record {
   name = b ∷ [];
-  seeds = record { items = record { name = c ∷ []; addr = at 7000 } ∷ record { name = d ∷ []; addr = at 7001 } ∷ [] };
+  seeds = record { items = at 7000 ∷ at 7001 ∷ [] };
   interval_ms = 100;
   pull_ms = 300;
   until = 10000;

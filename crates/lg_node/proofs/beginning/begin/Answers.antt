@@ -16,7 +16,7 @@ returns-in-Err-clause-refused g c = λ start name told.
 pub returns-clause-begun : goal.returns-clause-begun
 returns-clause-begun g c = λ start name told.
     let ready = c.in-Some.ensures _ start name told in
-    let seeds : c.deref.result.now ≡ c.args.setup.now.config.now.seeds.items = cc in record {
+    let seeds : c.deref.result.now ≡ c.args.setup.now.settings.now.seeds.items = cc in record {
       sends = line [] (failures_of c.link_of-sends.result);
       links =
           record {

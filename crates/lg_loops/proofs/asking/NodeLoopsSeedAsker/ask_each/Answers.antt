@@ -1,6 +1,5 @@
-use Rattle.std.proofs.Common.{◌≡◌, ◌+◌, [], ◌∷◌, ◌++◌, take, ap, sym, ◌∙◌, arith}
+use Rattle.std.proofs.Common.{◌+◌, take, arith}
 use Rattle.std.proofs.lemmas.List.{take_more}
-use Rattle.lg_timing.specs.declared.config.Seed.{Seed}
 use Rattle.lg_loops.proofs.SeenLaws.{call_begins, seen_itself}
 use Rattle.lg_loops.proofs.AskingLaws.{asked_none, asked_more}
 use Rattle.lg_loops.proofs.asking.NodeLoopsSeedAsker.ask_each.Goals as goal
@@ -11,10 +10,9 @@ loop-seed-init g c = record { begins = seen_itself c.args.pass.now.seen; few = o
 pub loop-seed-preserved : goal.loop-seed-preserved
 loop-seed-preserved g c =
     let i = c.loop-seed.seed-index in
-    let s : Seed = c.seed-item.result in
-    let taken : take (i + 1) c.args.seeds.now ≡ take i c.args.seeds.now ++ s ∷ [] = take_more c.args.seeds.now i s (omega arith) ∙ ap (λ (x : Seed). take i c.args.seeds.now ++ x ∷ []) (sym c.seed-item.is) in
+    let taken = take_more c.args.seeds.now i _ (omega arith) in
     record {
       begins = call_begins c.args.pass.now.seen _ _ _ _ c.loop-seed.invariant.begins c.in_ok-pull.ensures.answered;
       few = omega (arith, c.loop-seed.invariant.few, c.of-unsent.ensures.few);
-      asked = rw taken (asked_more g.L.Link.tells (take i c.args.seeds.now) s _ _ _ _ _ _ _ _ c.loop-seed.unsent c.of-unsent.result.unsent c.loop-seed.invariant.asked c.in_ok-pull.ensures.answered c.of-unsent.ensures.handed);
+      asked = rw taken (asked_more g.L.Link.tells (take i c.args.seeds.now) _ _ _ _ _ _ _ _ _ c.loop-seed.unsent c.of-unsent.result.unsent c.loop-seed.invariant.asked c.in_ok-pull.ensures.answered c.of-unsent.ensures.handed);
     }
