@@ -1,6 +1,8 @@
 -- What is right: whoever wants to believe the contracts reads these.
 pub mod Checking
 pub mod Examples
+pub mod FirstExamples
+pub mod FirstNumber
 pub mod KeyTelling
 pub mod Reporting
 pub mod Running

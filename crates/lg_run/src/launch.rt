@@ -10,6 +10,7 @@ ghost use Rattle.lg_run.specs.Meaning.Reporting.{ReportsBoth};
 ghost use Rattle.lg_run.specs.Meaning.Telling.{line_of, status_told};
 ghost use Rattle.lg_run.specs.Meaning.Words.{link_reason, start_line};
 
+use crate::first::{started_at, system_time};
 use crate::key_file::{keys_at, tell_no_keys};
 use crate::reporting::{tell, tell_both, tell_fault};
 use crate::telling::table_of;
@@ -46,13 +47,14 @@ use std::thread::Threads;
 /// with which file, in which version it writes its packets, and how many seeds it has. Memory that is refused for this
 /// line is told by [`Told::Memory`], and nothing is run.
 ///
-/// If there are keys, the node takes and sends only sealed datagrams. It is run by [`run_node`](lg_node::run_node), and
-/// [`Told::of`] says what is told of it. If it follows, its watcher writes what it sees, and nothing else is written.
-/// Otherwise, if both loops stopped or the node was ousted, the members are written as
-/// [`put_table`](lg_lines::put_table) does, a line each. In all other cases nothing is written. Members that can't be
-/// written have a second line, which says why. A socket that can't be bound has one, which says to which address and
-/// why. So has a status server, and one that ended before the node. A line that `faults` doesn't take is dropped. Apart
-/// from what the node allocates, memory is allocated only for these texts.
+/// It counts its probes and relays from a number that follows from the system's time and its dice. If there are keys,
+/// it takes and sends only sealed datagrams. It is run by [`run_node`](lg_node::run_node), and [`Told::of`] says what
+/// is told of it. If it follows, its watcher writes what it sees, and nothing else is written. Otherwise, if both loops
+/// stopped or the node was ousted, the members are written as [`put_table`](lg_lines::put_table) does, a line each. In
+/// all other cases nothing is written. Members that can't be written have a second line, which says why. A socket that
+/// can't be bound has one, which says to which address and why. So has a status server, and one that ended before the
+/// node. A line that `faults` doesn't take is dropped. Apart from what the node allocates, memory is allocated only for
+/// these texts.
 ///
 /// What is said of bytes holds for writers that tell their bytes, as those over memory do.
 pub fn run_bytes<R, W, F>(
@@ -72,7 +74,7 @@ where
         wishes.now.follow result }
 {
     let node = match NodeConfig::read(alloc, bytes) {
-        Ok(node) => node,
+        Ok(node) => started_at(system_time(rt), node),
         Err(ReadFault::NoMemory) => return tell(Told::Memory, faults),
         Err(ReadFault::File(fault)) => return tell_fault(alloc, bytes, fault, faults),
     };
@@ -110,12 +112,15 @@ fn settings_of(node: &NodeConfig, keys: Option<Keys>, follow: bool) -> Settings
     ensures { result ≡ node_settings node.now keys follow }
 {
     Settings {
+        bind: node.bound_at(),
+        seeds: node.asked(),
         dice: node.dice,
         pull_ms: node.pull_ms,
         stall_ms: node.stall_ms,
         follow,
         status: node.status,
         status_open: node.status_open,
+        leave: node.leave,
         keys,
     }
 }
@@ -153,7 +158,7 @@ fn fault_line(alloc: Global, node: &NodeConfig, fault: &NodeFault) -> String
     ensures { IsSecond node.now (Err fault.now) (string_bytes result) }
 {
     match (fault, node.status) {
-        (NodeFault::Socket(kind), _) => bind_line(alloc, node.config.addr, *kind),
+        (NodeFault::Socket(kind), _) => bind_line(alloc, node.bound_at(), *kind),
         (NodeFault::Status(kind), Some(addr)) => bind_line(alloc, addr, *kind),
         _ => String::new(alloc),
     }

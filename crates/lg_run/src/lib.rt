@@ -8,6 +8,7 @@
 
 mod checking;
 mod file;
+mod first;
 mod key_file;
 mod launch;
 mod reporting;

@@ -30,7 +30,7 @@ pub(crate) fn start_line(alloc: Global, file: &str, node: &NodeConfig) -> Result
     ensures { IfOk result (λ text. string_bytes text ≡ start_line file.now node.now) }
 {
     let addr = addr_text(alloc, node.config.addr)?;
-    let seeds = seed_count(alloc, node.config.seeds.len())?;
+    let seeds = seed_count(alloc, node.seeds.len())?;
     let name = text_of_name(&node.config.name);
     let wire = node.config.wire;
     format!(in alloc; "lg: {name} at {addr}, file {file}, wire {wire}, {seeds}\n")

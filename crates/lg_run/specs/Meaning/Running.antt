@@ -14,6 +14,8 @@ use Rattle.lg_config.specs.declared.fault.ReadFault.{ReadFault}
 use Rattle.lg_config.specs.declared.fault.ReadFault.TheVariants.{NoMemory, File}
 use Rattle.lg_config.specs.declared.node.NodeConfig.{NodeConfig}
 use Rattle.lg_config.specs.Meaning.Answer.{IsAnswer}
+use Rattle.lg_config.specs.Meaning.Binding.{bound_at}
+use Rattle.lg_config.specs.Meaning.Seeds.{asked_addrs}
 use Rattle.lg_node.specs.declared.node.NodeEnd.{NodeEnd}
 use Rattle.lg_node.specs.declared.node.NodeFault.{NodeFault}
 use Rattle.lg_node.specs.declared.node.NodeFault.TheVariants as node
@@ -22,6 +24,7 @@ use Rattle.lg_node.specs.Meaning.Nodes.{IsRun, IsEarly, TellsServed}
 use Rattle.lg_run.specs.declared.file.NoBytes.{NoBytes}
 use Rattle.lg_run.specs.declared.told.Told.TheVariants.{Memory}
 use Rattle.lg_run.specs.Meaning.Checking.{WritesText}
+use Rattle.lg_run.specs.Meaning.FirstNumber.{started_at}
 use Rattle.lg_run.specs.declared.key_file.NoKeys.{NoKeys}
 use Rattle.lg_run.specs.Meaning.KeyTelling.{TellsNoKeys}
 use Rattle.lg_run.specs.Meaning.Reporting.{ReportsBoth, TellsAlone, TellsFault, TellsNoBytes}
@@ -67,7 +70,7 @@ Announces until follow reported reports line = AnnouncesIf (is_announced until f
 -- The second line of what is told of a node that was run: why its socket or that of its status server can't be bound.
 -- If memory for it is refused, there is none.
 abbrev pub IsSecond : NodeConfig → Result NodeEnd NodeFault → List ℕ → Type 0
-IsSecond n (Err (node.Socket kind)) second = (second ≡ []) ⊎ (second ≡ link_reason n.config.addr kind)
+IsSecond n (Err (node.Socket kind)) second = (second ≡ []) ⊎ (second ≡ link_reason (bound_at n) kind)
 IsSecond n (Err (node.Status kind)) second =
     (second ≡ []) ⊎ ((addr : Addr) × (n.status ≡ Some addr) × (second ≡ link_reason addr kind))
 IsSecond n (Err node.Clock) second = second ≡ []
@@ -77,12 +80,15 @@ IsSecond n (Ok e) second = second ≡ []
 -- the settings of a node: what its configuration says, with these keys, and whether it follows
 abbrev pub node_settings : NodeConfig → Option Keys → Bool → Settings
 node_settings n keys follow = record {
+  bind = bound_at n;
+  seeds = record { items = asked_addrs n.config.addr n.seeds.items };
   dice = n.dice;
   pull_ms = n.pull_ms;
   stall_ms = n.stall_ms;
   follow = follow;
   status = n.status;
   status_open = n.status_open;
+  leave = n.leave;
   keys = keys;
 }
 
@@ -149,12 +155,12 @@ RunsKeyed before after held holds reported reports file n until follow status =
     × RunsOrRefused before after held holds reported reports file n keys until follow status)
     ⊎ ((fault : NoKeys) × IsSome n.key_file × (after ≡ before) × TellsNoKeys reported reports fault status)
 
--- A configuration that was read is run. If none was read, the reason is told.
+-- A configuration that was read is run, with a first number by some time. If none was read, the reason is told.
 abbrev pub RunsConfig :
     {W : Type 0} → (before after : W) (held holds : Option (List ℕ)) (reported reports : Reported) (bytes file : List ℕ)
     → Result NodeConfig ReadFault → (until : Option ℕ) (follow : Bool) (status : ℕ) → Type 0
 RunsConfig before after held holds reported reports bytes file (Ok n) until follow status =
-    RunsKeyed before after held holds reported reports file n until follow status
+    (time : ℕ) × RunsKeyed before after held holds reported reports file (started_at time n) until follow status
 RunsConfig before after held holds reported reports bytes file (Err NoMemory) until follow status =
     TellsAlone before after reported reports Memory status
 RunsConfig before after held holds reported reports bytes file (Err (File fault)) until follow status =

@@ -4,9 +4,10 @@ use Rattle.std.specs.Fmt.{digits}
 use Rattle.std.specs.declared.io.ErrorKind.TheVariants as error
 use Rattle.lg_rules.specs.declared.addr.Addr.{Addr}
 use Rattle.lg_rules.specs.declared.addr.Ip.TheVariants.{V4}
-use Rattle.lg_timing.specs.declared.config.Seed.{Seed}
 use Rattle.lg_timing.specs.Meaning.Config.{defaults}
 use Rattle.lg_config.specs.declared.node.NodeConfig.{NodeConfig}
+use Rattle.lg_config.specs.declared.seeds.SeedPlace.{SeedPlace}
+use Rattle.lg_config.specs.Meaning.Seeds.{known_seeds}
 use Rattle.lg_config.specs.Meaning.Settings.{with_seeds}
 use Rattle.lg_run.specs.Meaning.Wishes.{end_wished, is_announced}
 use Rattle.lg_run.specs.Meaning.Words.{link_reason, start_line}
@@ -15,24 +16,30 @@ use Rattle.lg_run.specs.Meaning.Words.{link_reason, start_line}
 abbrev local_at : ℕ → Addr
 local_at port = record { ip = V4 (127 ∷ 0 ∷ 0 ∷ 1 ∷ []); port = port }
 
-abbrev seed_of : ℕ → Seed
-seed_of letter = record { name = letter ∷ []; addr = local_at 7101 }
+abbrev seed_of : ℕ → SeedPlace
+seed_of letter = record { name = Some (letter ∷ []); addr = local_at 7101 }
+
+abbrev nameless : SeedPlace
+nameless = record { name = None; addr = local_at 7101 }
 
 -- the node b at port 7102 with the default numbers and these seeds
-abbrev b-knowing : List Seed → NodeConfig
+abbrev b-knowing : List SeedPlace → NodeConfig
 b-knowing seeds =
     record {
-      config = with_seeds seeds (defaults (98 ∷ []) (local_at 7102));
+      config = with_seeds (known_seeds seeds) (defaults (98 ∷ []) (local_at 7102));
       dice = 1;
       pull_ms = 30000;
       stall_ms = 100;
       status = None;
       status_open = false;
       key_file = None;
+      leave = true;
+      bind = None;
+      seeds = record { items = seeds };
     }
 
 two-seeds :
-    start_line (codes "b.toml") (b-knowing (seed_of 97 ∷ seed_of 99 ∷ []))
+    start_line (codes "b.toml") (b-knowing (seed_of 97 ∷ nameless ∷ []))
     ≡ codes "lg: b at 127.0.0.1:7102, file b.toml, wire 1, 2 seeds\n"
 unfolding digits
 two-seeds = refl

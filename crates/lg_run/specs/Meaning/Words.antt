@@ -14,7 +14,7 @@ seed_count n = if n == 1 then codes "1 seed" else decimal n ++ codes " seeds"
 -- lg: NAME at A.B.C.D:PORT, file FILE, wire VERSION, N seeds
 abbrev pub start_line : List ℕ → NodeConfig → List ℕ
 start_line file n =
-    let seeds = seed_count (length n.config.seeds.items) ++ newline in
+    let seeds = seed_count (length n.seeds.items) ++ newline in
     let format = codes ", wire " ++ (decimal n.config.wire ++ (codes ", " ++ seeds)) in
     codes "lg: " ++ (n.config.name ++ (codes " at " ++ (addr_text n.config.addr
     ++ (codes ", file " ++ (file ++ format)))))
