@@ -7,15 +7,16 @@ use Rattle.lg_text.specs.declared.fault.RunFault.TheVariants.{Memory, Write}
 use Rattle.lg_run.specs.Meaning.Checking.{ChecksFile}
 use Rattle.lg_run.specs.Meaning.Running.{RunsFile}
 use Rattle.lg_commands.specs.Meaning.Choosing.{order_text}
-use Rattle.lg_commands.specs.Meaning.Running.{FailsBy, RunsAnswer, RunsOrder, RunsSim, RunsTimeouts}
+use Rattle.lg_commands.specs.Meaning.Running.{FailsBy, RunsAnswer, RunsInit, RunsOrder, RunsSim, RunsTimeouts}
 use Rattle.lg_commands.specs.declared.timeouts.Numbers.{Numbers}
+use Rattle.lg_client.specs.Meaning.Leaving.{LeavesNode}
 use Rattle.lg_command_line.specs.declared.asked.Question.{Question}
-use Rattle.lg_command_line.specs.Meaning.Commands.{Request, answer, ask, check, node, order, sim, timeouts}
+use Rattle.lg_command_line.specs.Meaning.Commands.{Request, answer, ask, check, init, leave, node, order, sim, timeouts}
 use Rattle.lg_command_line.specs.Meaning.Commands.{asked, line_faults}
-use Rattle.lg_command_line.specs.Meaning.Commands.{IfAnswer, IfAsk, IfCheck, IfNode, IfOrder, IfSim, IfTimeouts}
+use Rattle.lg_command_line.specs.Meaning.Commands.{IfAnswer, IfAsk, IfCheck, IfInit, IfLeave, IfNode, IfOrder, IfSim, IfTimeouts}
 use Rattle.lg_command_line.specs.Meaning.Commands.{RefusesLine}
 use Rattle.lg_cli.specs.Meaning.Running.{Streams, RunsNamed, RunsLists, RunsNumbers, RunsScript, RunsNodeFile, RunsCheck}
-use Rattle.lg_cli.specs.Meaning.Running.{AsksNode, RunsAsking}
+use Rattle.lg_cli.specs.Meaning.Running.{AsksNode, RunsAsking, RunsFirstFile, RunsLeaving}
 use Rattle.lg_cli.specs.Meaning.Running.{RunsRequest, LacksUnread, LeavesUnread, RunsLine}
 
 abbrev IsCons : {X : Type 0} → List X → Type 0
@@ -35,6 +36,8 @@ NeedsNoMachine sim = Unit {0}
 NeedsNoMachine (node file for_ms follow until_input_ends) = ⊥
 NeedsNoMachine (check file) = ⊥
 NeedsNoMachine (ask question at json) = ⊥
+NeedsNoMachine init = Unit {0}
+NeedsNoMachine (leave at name) = ⊥
 
 module _ (R W : Type 0) (before after : Streams R W) (status : ℕ) where
   of_answer : (P : List ℕ → Type 0) (r : Request) → RunsRequest before after r status
@@ -46,6 +49,8 @@ module _ (R W : Type 0) (before after : Streams R W) (status : ℕ) where
   of_answer P (node file for_ms follow until_input_ends) run give = tt
   of_answer P (check file) run give = tt
   of_answer P (ask question at json) run give = tt
+  of_answer P init run give = tt
+  of_answer P (leave at name) run give = tt
 
   of_order : (P : List ℕ → List ℕ → Type 0) (r : Request) → RunsRequest before after r status
       → ((names words : List ℕ) → RunsLists before after names words status → P names words) → IfOrder r P
@@ -56,6 +61,8 @@ module _ (R W : Type 0) (before after : Streams R W) (status : ℕ) where
   of_order P (node file for_ms follow until_input_ends) run give = tt
   of_order P (check file) run give = tt
   of_order P (ask question at json) run give = tt
+  of_order P init run give = tt
+  of_order P (leave at name) run give = tt
 
   of_timeouts : (P : Numbers → Type 0) (r : Request) → RunsRequest before after r status
       → ((numbers : Numbers) → RunsNumbers before after numbers status → P numbers) → IfTimeouts r P
@@ -66,6 +73,8 @@ module _ (R W : Type 0) (before after : Streams R W) (status : ℕ) where
   of_timeouts P (node file for_ms follow until_input_ends) run give = tt
   of_timeouts P (check file) run give = tt
   of_timeouts P (ask question at json) run give = tt
+  of_timeouts P init run give = tt
+  of_timeouts P (leave at name) run give = tt
 
   of_sim : (P : Type 0) (r : Request) → RunsRequest before after r status
       → (RunsScript before after status → P) → IfSim r P
@@ -76,6 +85,8 @@ module _ (R W : Type 0) (before after : Streams R W) (status : ℕ) where
   of_sim P (node file for_ms follow until_input_ends) run give = tt
   of_sim P (check file) run give = tt
   of_sim P (ask question at json) run give = tt
+  of_sim P init run give = tt
+  of_sim P (leave at name) run give = tt
 
   of_node : (P : List ℕ → Option ℕ → Bool → Type 0) (r : Request) → RunsRequest before after r status
       → ((file : List ℕ) (for_ms : Option ℕ) (follow : Bool) → RunsNodeFile before after file for_ms follow status → P file for_ms follow)
@@ -87,6 +98,8 @@ module _ (R W : Type 0) (before after : Streams R W) (status : ℕ) where
   of_node P (node file for_ms follow until_input_ends) run give = give file for_ms follow run
   of_node P (check file) run give = tt
   of_node P (ask question at json) run give = tt
+  of_node P init run give = tt
+  of_node P (leave at name) run give = tt
 
   of_check : (P : List ℕ → Type 0) (r : Request) → RunsRequest before after r status
       → ((file : List ℕ) → RunsCheck before after file status → P file) → IfCheck r P
@@ -97,6 +110,8 @@ module _ (R W : Type 0) (before after : Streams R W) (status : ℕ) where
   of_check P (node file for_ms follow until_input_ends) run give = tt
   of_check P (check file) run give = give file run
   of_check P (ask question at json) run give = tt
+  of_check P init run give = tt
+  of_check P (leave at name) run give = tt
 
   of_ask : (P : Question → List ℕ → Bool → Type 0) (r : Request) → RunsRequest before after r status
       → ((question : Question) (at : List ℕ) (json : Bool) → RunsAsking before after question at json status
@@ -109,6 +124,32 @@ module _ (R W : Type 0) (before after : Streams R W) (status : ℕ) where
   of_ask P (node file for_ms follow until_input_ends) run give = tt
   of_ask P (check file) run give = tt
   of_ask P (ask question at json) run give = give question at json run
+  of_ask P init run give = tt
+  of_ask P (leave at name) run give = tt
+
+  of_init : (P : Type 0) (r : Request) → RunsRequest before after r status
+      → (RunsFirstFile before after status → P) → IfInit r P
+  of_init P (answer text) run give = tt
+  of_init P (order names words) run give = tt
+  of_init P (timeouts numbers) run give = tt
+  of_init P sim run give = tt
+  of_init P (node file for_ms follow until_input_ends) run give = tt
+  of_init P (check file) run give = tt
+  of_init P (ask question at json) run give = tt
+  of_init P init run give = give run
+  of_init P (leave at name) run give = tt
+
+  of_leave : (P : List ℕ → List ℕ → Type 0) (r : Request) → RunsRequest before after r status
+      → ((at name : List ℕ) → RunsLeaving before after at name status → P at name) → IfLeave r P
+  of_leave P (answer text) run give = tt
+  of_leave P (order names words) run give = tt
+  of_leave P (timeouts numbers) run give = tt
+  of_leave P sim run give = tt
+  of_leave P (node file for_ms follow until_input_ends) run give = tt
+  of_leave P (check file) run give = tt
+  of_leave P (ask question at json) run give = tt
+  of_leave P init run give = tt
+  of_leave P (leave at name) run give = give at name run
 
   -- a run that failed, of a command that needs no machine
   run_fails : (r : Request) → NeedsNoMachine r → RunsRequest before after r status → status ≡ 1
@@ -120,6 +161,8 @@ module _ (R W : Type 0) (before after : Streams R W) (status : ℕ) where
   run_fails (node file for_ms follow until_input_ends) other run one = absurd other
   run_fails (check file) other run one = absurd other
   run_fails (ask question at json) other run one = absurd other
+  run_fails init other run one = run.failed one
+  run_fails (leave at name) other run one = absurd other
 
   -- such a run doesn't have the status of a refusal
   run_isnt_refused : (r : Request) → NeedsNoMachine r → RunsRequest before after r status → status ≢ 2
@@ -130,6 +173,8 @@ module _ (R W : Type 0) (before after : Streams R W) (status : ℕ) where
   run_isnt_refused (node file for_ms follow until_input_ends) other run = absurd other
   run_isnt_refused (check file) other run = absurd other
   run_isnt_refused (ask question at json) other run = absurd other
+  run_isnt_refused init other run = run.run
+  run_isnt_refused (leave at name) other run = absurd other
 
   lacks_fails : LacksUnread before after status → FailsBy before.reported after.reported before.writer after.writer
   lacks_fails lacks = record { fault = Memory; line = lacks.1.told; unwritten = λ _. lacks.1.unwritten }
@@ -150,6 +195,8 @@ all_answer P sim give = tt
 all_answer P (node file for_ms follow until_input_ends) give = tt
 all_answer P (check file) give = tt
 all_answer P (ask question at json) give = tt
+all_answer P init give = tt
+all_answer P (leave at name) give = tt
 
 all_order : (P : List ℕ → List ℕ → Type 0) (r : Request) → ((names words : List ℕ) → P names words) → IfOrder r P
 all_order P (answer text) give = tt
@@ -159,6 +206,8 @@ all_order P sim give = tt
 all_order P (node file for_ms follow until_input_ends) give = tt
 all_order P (check file) give = tt
 all_order P (ask question at json) give = tt
+all_order P init give = tt
+all_order P (leave at name) give = tt
 
 all_timeouts : (P : Numbers → Type 0) (r : Request) → ((numbers : Numbers) → P numbers) → IfTimeouts r P
 all_timeouts P (answer text) give = tt
@@ -168,6 +217,8 @@ all_timeouts P sim give = tt
 all_timeouts P (node file for_ms follow until_input_ends) give = tt
 all_timeouts P (check file) give = tt
 all_timeouts P (ask question at json) give = tt
+all_timeouts P init give = tt
+all_timeouts P (leave at name) give = tt
 
 all_sim : (P : Type 0) (r : Request) → P → IfSim r P
 all_sim P (answer text) give = tt
@@ -177,6 +228,8 @@ all_sim P sim give = give
 all_sim P (node file for_ms follow until_input_ends) give = tt
 all_sim P (check file) give = tt
 all_sim P (ask question at json) give = tt
+all_sim P init give = tt
+all_sim P (leave at name) give = tt
 
 all_node : (P : List ℕ → Option ℕ → Bool → Type 0) (r : Request) → ((file : List ℕ) (for_ms : Option ℕ) (follow : Bool) → P file for_ms follow)
     → IfNode r (λ file for_ms follow until_input_ends. P file for_ms follow)
@@ -187,6 +240,8 @@ all_node P sim give = tt
 all_node P (node file for_ms follow until_input_ends) give = give file for_ms follow
 all_node P (check file) give = tt
 all_node P (ask question at json) give = tt
+all_node P init give = tt
+all_node P (leave at name) give = tt
 
 all_check : (P : List ℕ → Type 0) (r : Request) → ((file : List ℕ) → P file) → IfCheck r P
 all_check P (answer text) give = tt
@@ -196,6 +251,8 @@ all_check P sim give = tt
 all_check P (node file for_ms follow until_input_ends) give = tt
 all_check P (check file) give = give file
 all_check P (ask question at json) give = tt
+all_check P init give = tt
+all_check P (leave at name) give = tt
 
 all_ask : (P : Question → List ℕ → Bool → Type 0) (r : Request)
     → ((question : Question) (at : List ℕ) (json : Bool) → P question at json) → IfAsk r P
@@ -206,6 +263,30 @@ all_ask P sim give = tt
 all_ask P (node file for_ms follow until_input_ends) give = tt
 all_ask P (check file) give = tt
 all_ask P (ask question at json) give = give question at json
+all_ask P init give = tt
+all_ask P (leave at name) give = tt
+
+all_init : (P : Type 0) (r : Request) → P → IfInit r P
+all_init P (answer text) give = tt
+all_init P (order names words) give = tt
+all_init P (timeouts numbers) give = tt
+all_init P sim give = tt
+all_init P (node file for_ms follow until_input_ends) give = tt
+all_init P (check file) give = tt
+all_init P (ask question at json) give = tt
+all_init P init give = give
+all_init P (leave at name) give = tt
+
+all_leave : (P : List ℕ → List ℕ → Type 0) (r : Request) → ((at name : List ℕ) → P at name) → IfLeave r P
+all_leave P (answer text) give = tt
+all_leave P (order names words) give = tt
+all_leave P (timeouts numbers) give = tt
+all_leave P sim give = tt
+all_leave P (node file for_ms follow until_input_ends) give = tt
+all_leave P (check file) give = tt
+all_leave P (ask question at json) give = tt
+all_leave P init give = tt
+all_leave P (leave at name) give = give at name
 
 module _ (R W : Type 0) (before after : Streams R W) (line : List (List ℕ)) (status : ℕ) (runs : RunsLine before after line status) where
   -- the command's run, where memory wasn't refused for reading the line
@@ -382,6 +463,28 @@ module _ (R W : Type 0) (before after : Streams R W) (line : List (List ℕ)) (s
       | inl leaves ↦ all_ask (λ question at json. after.reader ≡ before.reader) (asked line) (λ question at json. leaves.0)
       | inr lacks ↦ all_ask (λ question at json. after.reader ≡ before.reader) (asked line) (λ question at json. lacks.0)
     ]
+  ]
+
+  -- `init` writes its text, unless the status says that something failed
+  pub begun : line_faults line ≡ [] → status ≢ 1
+      → IfInit (asked line) (RunsInit before.held after.held before.reported after.reported status)
+  begun none other = of_init R W before after status _ (asked line) (run_of none other) (λ run. run.begun other)
+
+  -- a node is asked to leave, unless memory was refused for reading the line; nothing is written
+  pub left : line_faults line ≡ [] → IfLeave (asked line) (λ at name.
+      LeavesNode at name before.reported after.reported status
+      ⊎ ((status ≡ 1) × FailsBy before.reported after.reported before.writer after.writer))
+  left none = elim (runs.taken none) [
+    | inl run ↦ of_leave R W before after status (λ at name. LeavesNode at name before.reported after.reported status
+        ⊎ ((status ≡ 1) × FailsBy before.reported after.reported before.writer after.writer)) (asked line) run (λ at name r. inl r.left)
+    | inr lacks ↦ all_leave (λ at name. LeavesNode at name before.reported after.reported status
+        ⊎ ((status ≡ 1) × FailsBy before.reported after.reported before.writer after.writer)) (asked line) (λ at name. inr (lacks.1.is, lacks_fails R W before after status lacks))
+  ]
+
+  pub left_unwritten : line_faults line ≡ [] → IfLeave (asked line) (λ at name. after.writer ≡ before.writer)
+  left_unwritten none = elim (runs.taken none) [
+    | inl run ↦ of_leave R W before after status (λ at name. after.writer ≡ before.writer) (asked line) run (λ at name r. r.unwritten)
+    | inr lacks ↦ all_leave (λ at name. after.writer ≡ before.writer) (asked line) (λ at name. lacks.1.unwritten)
   ]
 
   -- unless `node` or `check` is run, or a node is asked, a refusal writes nothing

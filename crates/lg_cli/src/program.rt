@@ -8,7 +8,7 @@ ghost use Rattle.std.specs.IoError.{error_kind};
 ghost use Rattle.lg_text.specs.Meaning.Faults.{run_fault_text};
 ghost use Rattle.lg_text.specs.Meaning.Reporting.{Reports};
 ghost use Rattle.lg_commands.specs.Meaning.Timeouts.{are_good};
-ghost use Rattle.lg_command_line.specs.Meaning.Commands.{IfAsk, IfCheck, IfNode, IfTimeouts};
+ghost use Rattle.lg_command_line.specs.Meaning.Commands.{IfAsk, IfCheck, IfLeave, IfNode, IfTimeouts};
 ghost use Rattle.lg_command_line.specs.Support.Requests.{request_of};
 ghost use Rattle.lg_cli.specs.Meaning.Faults.{foreign_text};
 ghost use Rattle.lg_cli.specs.Meaning.Running.{streams, RunsLine, RunsRequest};
@@ -16,8 +16,9 @@ ghost use Rattle.lg_cli.specs.Meaning.Running.{streams, RunsLine, RunsRequest};
 use crate::ask::{AskWords, ask_node};
 use crate::node::{NodeWords, Owned, begin_node};
 use crate::output::Pumped;
+use lg_client::leave_node;
 use lg_command_line::{Asked, MAX_RUN_MS, take_words};
-use lg_commands::{FAILED, USAGE, answer_named, order_lists, simulate, timeouts_of};
+use lg_commands::{FAILED, USAGE, answer_named, order_lists, simulate, timeouts_of, write_init};
 use lg_run::{Wishes, check_file, run_bytes};
 use lg_text::{FaultStream, RunFault, report};
 use lg_timing::Moment;
@@ -35,13 +36,12 @@ use std::{io, rt};
 ///
 /// `reader`, `writer` and `faults` stand for standard input, output and error. Only `answer` and `sim` read. `owned`
 /// has standard input and output too, for the threads of `node --until-input-ends` and `node --follow`
-/// ([`begin_node`]). A line that `faults` doesn't take is dropped.
-/// `node`, `check`, `members`, `status` and `watch` alone use the machine `rt`. The first two read their file. `node`
-/// takes sockets, a clock and threads, writes its members, and tells its end, with the statuses of [`run_bytes`]. If
-/// its file gives no bytes, or its stop flag can't be had, it isn't run, and has the status of [`begin_node`]. `check`
-/// has those of [`check_file`].
-/// The other three ask a running node, with the statuses of [`tell_answer`](lg_client::tell_answer) and
-/// [`watch_changes`](lg_client::watch_changes). The statuses of all other command lines are:
+/// ([`begin_node`]). A line that `faults` doesn't take is dropped. `node`, `check`, `members`, `status`, `watch` and
+/// `leave` alone use the machine `rt`. The first two read their file. `node` takes sockets, a clock and threads, writes
+/// its members, and tells its end, with the statuses of [`run_bytes`]. If its file gives no bytes, or its stop flag
+/// can't be had, it isn't run, and has the status of [`begin_node`]. `check` has those of [`check_file`]. The other
+/// four ask a running node, with the statuses of [`tell_answer`](lg_client::tell_answer),
+/// [`watch_changes`](lg_client::watch_changes) and [`leave_node`]. The statuses of all other command lines are:
 ///
 /// - 0 if all was done. This includes help and the version, if they were asked for and written.
 /// - 1 if memory, a read or a write failed. That is reported as `lg: memory`, `lg: read` or `lg: write`. A second line
@@ -141,6 +141,7 @@ where
             let words = AskWords { question, at, json };
             ask_node(rt, alloc, &words, writer, faults)
         }
+        Asked::Leave { at, name } => leave_node(rt, alloc, at, name, faults),
         _ => run_without_machine(alloc, asked, reader, writer, faults),
     }
 }
@@ -160,6 +161,7 @@ where
     requires no_node { IfNode (request_of asked) (λ file for_ms follow until_input_ends. ⊥) }
     requires no_check { IfCheck (request_of asked) (λ file. ⊥) }
     requires no_question { IfAsk (request_of asked) (λ question at json. ⊥) }
+    requires no_leave { IfLeave (request_of asked) (λ at name. ⊥) }
     requires good { IfTimeouts (request_of asked) (λ numbers. are_good numbers ≡ true) }
     ensures { RunsRequest
         (streams reader.old (R.remaining reader.old) writer.old (W.contents writer.old) (F.reported faults.old))
@@ -171,7 +173,10 @@ where
         Asked::Order { names, words } => order_lists(alloc, names, words, writer, faults),
         Asked::Sim => simulate(alloc, reader, writer, faults),
         Asked::Timeouts { numbers } => timeouts_of(alloc, &numbers, writer, faults),
-        Asked::Node { .. } | Asked::Check { .. } | Asked::Ask { .. } => unreachable!(),
+        Asked::Init => write_init(writer, faults),
+        Asked::Node { .. } | Asked::Check { .. } | Asked::Ask { .. } | Asked::Leave { .. } => {
+            unreachable!()
+        }
     }
 }
 

@@ -15,12 +15,12 @@ const INIT_TEXT: &str = "\
     # The name by which all others know this member. Each member needs a name of its own.\n\
     # It has 1 to 32 bytes of A-Z a-z 0-9 . _ -\n\
     name = \"a\"\n\
-    # The IPv4 address of this member, and its UDP port. The others are told both, and send to them.\n\
+    # The address of this member, and its UDP port. The others are told both, and send to them.\n\
     # address = \"127.0.0.1\"\n\
     # port = 7946\n\
     # Where the socket is bound, if that isn't the address that the others are told. An example:\n\
     # bind = \"0.0.0.0\"\n\
-    # The members that this one asks when it starts, at most 16, each as \"b@10.0.0.8:7946\".\n\
+    # The members that this one asks when it starts, at most 16, each as \"10.0.0.8\" or \"b@10.0.0.8:7946\".\n\
     # seeds = []\n\
     # In which version packets are written. Members that don't read version 3 drop those of version 3.\n\
     wire = 3\n\

@@ -42,7 +42,11 @@ impl Site for Page {
         })
     }
 
-    fn act(&self, _alloc: Global, _asked: &OtherRequest<'_>) -> Result<Option<HttpAnswer>, AllocError> {
+    fn act(
+        &self,
+        _alloc: Global,
+        _asked: &OtherRequest<'_>,
+    ) -> Result<Option<HttpAnswer>, AllocError> {
         Ok(None)
     }
 }

@@ -5,16 +5,18 @@ use Rattle.lg_rules.specs.Meaning.Name.{name_of_text}
 use Rattle.lg_text.specs.Meaning.Reporting.{Reported}
 use Rattle.lg_text.specs.Meaning.Running.{ReadsWhole}
 use Rattle.lg_commands.specs.Meaning.Choosing.{order_text}
-use Rattle.lg_commands.specs.Meaning.Running.{FailsBy, RunsAnswer, RunsOrder, RunsSim, RunsTimeouts}
+use Rattle.lg_commands.specs.Meaning.Running.{FailsBy, RunsAnswer, RunsInit, RunsOrder, RunsSim, RunsTimeouts}
 use Rattle.lg_commands.specs.declared.timeouts.Numbers.{Numbers}
 use Rattle.lg_run.specs.Meaning.Checking.{ChecksFile}
 use Rattle.lg_run.specs.Meaning.Running.{RunsFile}
 use Rattle.lg_client.specs.declared.resource.Resource.TheVariants.{Health, Members as KnownMembers}
+use Rattle.lg_client.specs.Meaning.Leaving.{LeavesNode}
 use Rattle.lg_client.specs.Meaning.Telling.{TellsAnswer}
 use Rattle.lg_client.specs.Meaning.Watching.{WatchesChanges}
 use Rattle.lg_command_line.specs.declared.asked.Question.{Question}
 use Rattle.lg_command_line.specs.declared.asked.Question.TheVariants.{Members, Status, Watch}
-use Rattle.lg_command_line.specs.Meaning.Commands.{Request, answer, ask, check, node, order, sim, timeouts}
+use Rattle.lg_command_line.specs.Meaning.Commands.{Request, answer, ask, check, init, leave, node, order, sim}
+use Rattle.lg_command_line.specs.Meaning.Commands.{timeouts}
 use Rattle.lg_command_line.specs.Meaning.Commands.{asked, line_faults}
 use Rattle.lg_command_line.specs.Meaning.Leaving.{LacksMemory, LeavesLine}
 
@@ -103,6 +105,20 @@ pub record RunsAsking
       before.reported after.reported status
   pub unread : after.reader ≡ before.reader
 
+-- `init` is run. Nothing is read.
+pub record RunsFirstFile {R W : Type 0} (before after : Streams R W) (status : ℕ) : Type 0 where
+  pub begun : status ≢ 1 → RunsInit before.held after.held before.reported after.reported status
+  pub unread : after.reader ≡ before.reader
+  pub failed : status ≡ 1 → FailsBy before.reported after.reported before.writer after.writer
+  pub run : status ≢ 2
+
+-- `leave` is run: a node is asked to leave, and its end is waited for. Nothing is read from the reader, and nothing is
+-- written.
+pub record RunsLeaving {R W : Type 0} (before after : Streams R W) (at name : List ℕ) (status : ℕ) : Type 0 where
+  pub left : LeavesNode at name before.reported after.reported status
+  pub unread : after.reader ≡ before.reader
+  pub unwritten : after.writer ≡ before.writer
+
 -- The command line isn't run, and nothing is read.
 abbrev pub LacksUnread : {R W : Type 0} → (before after : Streams R W) → ℕ → Type 0
 LacksUnread before after status = (after.reader ≡ before.reader)
@@ -122,6 +138,8 @@ RunsRequest before after (node file for_ms follow until_input_ends) status =
     RunsNodeFile before after file for_ms follow status
 RunsRequest before after (check file) status = RunsCheck before after file status
 RunsRequest before after (ask question at json) status = RunsAsking before after question at json status
+RunsRequest before after init status = RunsFirstFile before after status
+RunsRequest before after (leave at name) status = RunsLeaving before after at name status
 
 -- A command line that is taken runs its command, and any other is left; or memory was refused for reading it. Nothing
 -- is read for a line that isn't run.

@@ -32,3 +32,20 @@ returns-in-Ask g c =
       asked = ran.ensures;
       unread = refl {a = reader};
     })
+
+pub returns-in-Leave : goal.returns-in-Leave
+returns-in-Leave g c =
+    let remaining = g.R.Read.remaining in
+    let contents = g.W.Write.contents in
+    let reported = g.F.FaultStream.reported in
+    let reader = c.args.reader.now in
+    let writer = c.args.writer.now in
+    let ran = c.leave_node in
+    let before = streams reader (remaining reader) writer (contents writer) (reported c.args.faults.now) in
+    let after = streams reader (remaining reader) writer (contents writer) (reported ran.new.faults) in
+    found-runs before after ran.result c.in-Leave.is
+    (record {
+      left = ran.ensures;
+      unread = refl {a = reader};
+      unwritten = refl {a = writer};
+    })

@@ -74,3 +74,20 @@ returns-in-Timeouts g c =
       failed = ran.ensures.failed;
       run = ran.ensures.run;
     })
+
+pub returns-in-Init : goal.returns-in-Init
+returns-in-Init g c =
+    let remaining = g.R.Read.remaining in
+    let contents = g.W.Write.contents in
+    let reported = g.F.FaultStream.reported in
+    let reader = c.args.reader.now in
+    let ran = c.write_init in
+    let before = streams reader (remaining reader) c.args.writer.now (contents c.args.writer.now) (reported c.args.faults.now) in
+    let after = streams reader (remaining reader) ran.new.writer (contents ran.new.writer) (reported ran.new.faults) in
+    found-runs before after ran.result c.in-Init.is
+    (record {
+      begun = ran.ensures.written;
+      unread = refl {a = reader};
+      failed = ran.ensures.failed;
+      run = ran.ensures.run;
+    })
