@@ -70,12 +70,18 @@ def defaults():
     return {key: int(value) for key, value in rows}
 
 
-def config_wanted(group, name):
-    """The configuration of a node of a group, with the defaults."""
+def drawn_first(client, port):
+    """The number of its first probe that a node has drawn, if it tells one that is in the range."""
+    first = said(client(port, "/v1/config")).get("first")
+    return first if isinstance(first, int) and 1 <= first <= 4_294_967_295 else "one of 1 to 4,294,967,295"
+
+
+def config_wanted(group, name, first):
+    """The configuration of a node of a group, with the defaults, which has drawn this first number."""
     lines = [line.split(" = ") for line in group.keys_of(name).splitlines()]
     given = {key: int(value) for key, value in lines if key != "status"}
     own = {"name": name, "address": HOST, "port": group.own[name], "dice": 1 + list(group.own).index(name),
-           "status": f"{HOST}:{group.status[name]}", "status_open": False, "first": 1, "group": None}
+           "status": f"{HOST}:{group.status[name]}", "status_open": False, "first": first, "group": None}
     seeds = [{"name": it, "address": HOST, "port": port} for it, port in group.seeds if it != name]
     return defaults() | given | own | {"seeds": seeds}
 
@@ -182,7 +188,8 @@ def fault_of_all(client, group, name):
     """What is wrong with any answer of a node of a group."""
     port = group.status[name]
     faults = [lambda: fault_beside_table(client, group, name),
-              lambda: fault_of_one(client, port, "/v1/config", config_wanted(group, name)),
+              lambda: fault_of_one(client, port, "/v1/config",
+                                   config_wanted(group, name, drawn_first(client, port))),
               lambda: beside_table(group, name, lambda table: fault_of_metrics(client, port, name, table)),
               lambda: beside_table(group, name, lambda table: fault_of_page(client, port, name, table)),
               lambda: fault_of_refusals(client, port)]

@@ -1,14 +1,14 @@
-"""Checks of the request by which a node is told to leave."""
+"""Checks of the request by which a node is told to leave, and of the command `leave` that makes it."""
 
-import socket
 import time
 
 from answers import difference
-from asking import SECONDS, Answer, Link, request
+from asking import Link, by_python, request
 from changes import Lone
-from checks import Skipped
+from group import AskedGroup
 from packets import HOST
-from running import LIFE_MS, Node, file_of, free_ports, free_status_ports, wait_for
+from running import free_status_ports, wait_until
+from telling import told_by, words_of
 
 LEAVE = "/v1/leave"
 # An interval of 2 s: so long a node goes on behind its leave, and a check has time to ask once more.
@@ -75,30 +75,42 @@ def leave_can_be_off(program):
         return None if node.node.is_running() else f"it has ended: {node.node.end()}"
 
 
-def own_address():
-    """An address of this machine that isn't loopback."""
-    with socket.socket(socket.AF_INET, socket.SOCK_DGRAM) as opened:
-        try:
-            # Nothing is sent: the system only chooses from which address it would be.
-            opened.connect(("192.0.2.1", 9))
-        except OSError:
-            raise Skipped("this machine has no address but loopback") from None
-        return opened.getsockname()[0]
+# ---- The command
 
 
-def only_this_machine_tells_it(program):
-    """A server at all addresses turns away who comes from an address that isn't loopback, although it has the name."""
-    address = own_address()
-    [port], [status] = free_ports(1), free_status_ports(1)
-    keys = f'{LEAVING}status = "0.0.0.0:{status}"\nstatus_open = true\n'
-    node = Node(program, file_of("b", port, keys=keys), "--for-ms", str(LIFE_MS))
-    try:
-        wait_for("b", port)
-        with socket.create_connection((address, status), SECONDS) as link:
-            link.sendall(request(LEAVE, "POST", NAMED + "connection: close\r\n"))
-            head, _, body = link.makefile("rb").read().partition(b"\r\n\r\n")
-        answer = Answer(int(head.split()[1]), {}, body)
-        fault = fault_of_refusal(answer, 403, address)
-        return fault or (None if node.is_running() else f"it has ended: {node.end()}")
-    finally:
-        node.kill()
+NAMES = ["a", "b", "c"]
+SHORT = "wire = 3\ninterval_ms = 500\ntimeout_ms = 200\n"
+
+
+def command_ends_a_node(program):
+    """`lg leave` ends a node in good order, and ends itself once the node has ended: with status 0, and with no word.
+    By then the node has written that it left, and the others know it. So it does if it is given the name."""
+    for more in ([], ["--name", "c"]):
+        with AskedGroup(program, NAMES, SHORT) as group:
+            if wait_until(group.is_whole, 30) is None:
+                return group.difference(dict.fromkeys(NAMES, "alive"))
+            told = told_by(words_of(program, "leave", group.status["c"], *more))
+            ended = wait_until(lambda: not group.nodes["c"].is_running(), 1) is not None
+            status, output, errors = group.nodes["c"].end()
+            left = [line.split()[1:3] for line in output.splitlines()][-1:]
+            known = group.knows({"a": "alive", "b": "alive", "c": "left"}, "ab")
+        wanted = (0, "", ""), True, 0, [["c", "left"]], "", True
+        if fault := difference(f"with {more}", (told, ended, status, left, errors, known), wanted):
+            return fault
+    return None
+
+
+def command_is_turned_away(program):
+    """`lg leave` tells that it wasn't obeyed: of a node whose file has `leave = "off"`, and of one that has another
+    name than it says. The node goes on. Nor is it obeyed where no node runs."""
+    with Lone(program, keys=SHORT + 'leave = "off"\n') as node:
+        off = told_by(words_of(program, "leave", node.status))
+        goes_on = by_python(node.status, "/v1/health").code, node.node.is_running()
+    with Lone(program, keys=SHORT) as node:
+        named = told_by(words_of(program, "leave", node.status, "--name", "z"))
+        nameless = told_by(words_of(program, "leave", node.status, "--name", "a/b"))
+        still = by_python(node.status, "/v1/health").code, node.node.is_running()
+    nobody = told_by(words_of(program, "leave", free_status_ports(1)[0]))
+    bad, alive = (8, "", "lg: bad answer\n"), (200, True)
+    wanted = bad, alive, bad, (3, "", "lg: bad names\n"), alive, (7, "", "lg: no answer\n")
+    return difference("leave", (off, goes_on, named, nameless, still, nobody), wanted)
