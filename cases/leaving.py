@@ -100,6 +100,16 @@ def command_ends_a_node(program):
     return None
 
 
+def command_ends_a_node_that_cannot_tell_it(program):
+    """A node whose packets have version 1 can tell nobody that it leaves. `lg leave` ends it all the same: the answer
+    comes before the node ends, and the node writes its table."""
+    with Lone(program, keys="interval_ms = 500\ntimeout_ms = 200\n") as node:
+        told = told_by(words_of(program, "leave", node.status))
+        status, output, errors = node.node.end()
+    wanted = (0, "", ""), 0, f"record b alive 0 127.0.0.1:{node.port}\n", ""
+    return difference("leave", (told, status, output, errors), wanted)
+
+
 def command_is_turned_away(program):
     """`lg leave` tells that it wasn't obeyed: of a node whose file has `leave = "off"`, and of one that has another
     name than it says. The node goes on. Nor is it obeyed where no node runs."""
