@@ -5,7 +5,7 @@ use Rattle.lg_clock.specs.declared.clock.Loop.{Loop}
 use Rattle.lg_clock.specs.declared.clock.Loop.TheVariants.{Receiving, Ticking}
 use Rattle.lg_clock.specs.declared.last_turns.LastTurns.{LastTurns}
 use Rattle.lg_clock.specs.Meaning.Keeping.{IsWithinStall, IsAtStall, IsSteady, AreSteady}
-use Rattle.lg_clock.specs.Meaning.Steady.{Handed, Reading, SteadyValue, machine_at, moment_at, last_turns_of, held_back, moment_given, readings, steady_of}
+use Rattle.lg_clock.specs.Meaning.Steady.{Handed, Reading, SteadyValue, machine_at, moment_at, last_turns_of, held_back, moment_given, pause_end, readings, steady_of}
 use Rattle.lg_clock.specs.Support.Steady.{turns_with}
 
 -- a clock, by its parts
@@ -39,21 +39,21 @@ is_next (suc k) machine moment (Some turns) shown h = record {
   within = omega arith;
 }
 
--- a turn leaves the clock within its stall
-turned_within : (stall machine moment : ℕ) (loop : Loop) (turns : Option LastTurns) → IsWithinStall (by_parts stall machine moment turns) → IsWithinStall (by_parts stall machine moment (Some (turns_with moment loop turns)))
-turned_within zero machine moment loop turns h = h
-turned_within (suc k) machine moment Receiving None h = omega arith
-turned_within (suc k) machine moment Ticking None h = omega arith
-turned_within (suc k) machine moment Receiving (Some turns) h = omega arith
-turned_within (suc k) machine moment Ticking (Some turns) h = omega arith
+-- a turn or a pause leaves the clock within its stall, if its end isn't before the moment
+turned_within : (stall machine moment last : ℕ) (loop : Loop) (turns : Option LastTurns) → moment ≤ last → IsWithinStall (by_parts stall machine moment turns) → IsWithinStall (by_parts stall machine moment (Some (turns_with last loop turns)))
+turned_within zero machine moment last loop turns later h = h
+turned_within (suc k) machine moment last Receiving None later h = omega arith
+turned_within (suc k) machine moment last Ticking None later h = omega arith
+turned_within (suc k) machine moment last Receiving (Some turns) later h = omega arith
+turned_within (suc k) machine moment last Ticking (Some turns) later h = omega arith
 
 -- a reading leaves the clock within its stall
 reading_within : (stall : ℕ) (h : Handed) (moment : ℕ) (past : List Reading) → IsWithinStall (by_parts stall (max (machine_at past) h.machine) moment (last_turns_of past)) → IsWithinStall (steady_of stall (record { handed = h; moment = moment } ∷ past))
 reading_within stall h moment past w = by_turn h.turned
   where
-    by_turn : (turned : Option Loop) → IsWithinStall (steady_of stall (record { handed = record { machine = h.machine; turned = turned }; moment = moment } ∷ past))
-    by_turn None = rw (no_turn_is_last h.machine moment past) w
-    by_turn (Some loop) = rw (turn_is_last h.machine moment loop past) (turned_within stall (max (machine_at past) h.machine) moment loop (last_turns_of past) w)
+    by_turn : (turned : Option Loop) → IsWithinStall (steady_of stall (record { handed = record { machine = h.machine; turned = turned; pause = h.pause }; moment = moment } ∷ past))
+    by_turn None = rw (no_turn_is_last h.machine h.pause moment past) w
+    by_turn (Some loop) = rw (turn_is_last h.machine h.pause moment loop past) (turned_within stall (max (machine_at past) h.machine) moment (pause_end moment h.pause) loop (last_turns_of past) (omega arith) w)
 
 -- a clock that gave steady readings is within its stall
 within_all : (stall : ℕ) (past : List Reading) → AreSteady stall past → IsWithinStall (steady_of stall past)

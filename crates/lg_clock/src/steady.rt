@@ -8,7 +8,7 @@ ghost use Rattle.lg_clock.specs.Meaning.Steady.{Handed, readings, steady_after, 
 ghost use Rattle.lg_clock.specs.Support.Steady.{read_at, turned_at};
 
 use crate::clock::Loop;
-use crate::last_turns::LastTurns;
+use crate::last_turns::{LastTurns, pause_end};
 use lg_timing::Moment;
 use std::marker::Model;
 
@@ -17,8 +17,9 @@ use std::marker::Model;
 ///
 /// It is handed the moments of the machine's clock, and goes on by as much as these do. But it never passes the older
 /// of the two loops' last turns by more than its stall. The last turn of a loop is the moment at which it last began
-/// one. The first turn of either loop is taken as one of both, and nothing is held back before it. So once a loop has
-/// begun no turn for longer than the stall, the clock stands still until it does.
+/// one, or at which the pause ends that it has begun since. The first turn of either loop is taken as one of both, and
+/// nothing is held back before it. So once a loop has begun no turn for longer than the stall, and pauses no more, the
+/// clock stands still until it does.
 ///
 /// A contract sees its stall, how far the machine's clock has come, its moment and the last turns.
 #[derive(Debug, Drop)]
@@ -72,7 +73,8 @@ impl Steady {
 
         // If the clock was handed this before (the latest first), it is now one that was handed this moment, too.
         ensures after { (past : List Handed) → self.old ≡ steady_after self.old.stall past
-            → self.new ≡ steady_after self.old.stall (record { machine = machine; turned = None } ∷ past) }
+            → self.new ≡ steady_after self.old.stall
+                (record { machine = machine; turned = None; pause = 0 } ∷ past) }
     {
         let free = self.free(machine);
         let held = self.held_back(free);
@@ -106,19 +108,36 @@ impl Steady {
 
     /// A loop begins a turn, and the machine's clock now shows `machine`. The clock is read, and the moment that it
     /// gives is the loop's last turn.
-    #[tactic(auto, using(crate::proofs::Turning::turned_is))]
     pub fn begin_turn(&mut self, of: Loop, machine: Moment)
-        ensures value { self.new ≡ turned_at machine of self.old }
+        ensures value { self.new ≡ turned_at machine of 0 self.old }
         ensures never_back { self.old.moment ≤ self.new.moment }
         ensures never_faster { self.new.moment ≤ self.old.moment + (machine - self.old.machine) }
         ensures within_stall { IsWithinStall self.new }
 
         // If the clock was handed this before (the latest first), it is now one that was handed this turn, too.
         ensures after { (past : List Handed) → self.old ≡ steady_after self.old.stall past
-            → self.new ≡ steady_after self.old.stall (record { machine = machine; turned = Some of } ∷ past) }
+            → self.new ≡ steady_after self.old.stall
+                (record { machine = machine; turned = Some of; pause = 0 } ∷ past) }
+    {
+        self.begin_pause(of, 0, machine);
+    }
+
+    /// A loop begins a pause of `ms` milliseconds, and the machine's clock now shows `machine`. The clock is read, and
+    /// the moment at which the pause ends is the loop's last turn.
+    #[tactic(auto, using(crate::proofs::Turning::turned_is))]
+    pub fn begin_pause(&mut self, of: Loop, ms: u64, machine: Moment)
+        ensures value { self.new ≡ turned_at machine of ms self.old }
+        ensures never_back { self.old.moment ≤ self.new.moment }
+        ensures never_faster { self.new.moment ≤ self.old.moment + (machine - self.old.machine) }
+        ensures within_stall { IsWithinStall self.new }
+
+        // If the clock was handed this before (the latest first), it is now one that was handed this pause, too.
+        ensures after { (past : List Handed) → self.old ≡ steady_after self.old.stall past
+            → self.new ≡ steady_after self.old.stall
+                (record { machine = machine; turned = Some of; pause = ms } ∷ past) }
     {
         let now = self.read(machine);
-        self.turns = Some(LastTurns::after(self.turns, of, now));
+        self.turns = Some(LastTurns::after(self.turns, of, pause_end(now, ms)));
     }
 
     /// The milliseconds that the clock has left out so far: those of the machine's clock less its own.

@@ -4,6 +4,7 @@
 //! Tested in: `lg_node_tests/src/clock.rt`.
 
 use crate::clock::{Clock, Loop};
+use crate::deadline_signal::DeadlineSignal;
 use crate::machine::MachineClock;
 use crate::steady::Steady;
 use lg_timing::Moment;
@@ -44,9 +45,19 @@ impl<'a, R: rt::Clock + Wait> Clock for SteadyClock<'a, R> {
         self.machine.pause(ms);
     }
 
+    fn pause_before(&self, ms: u64, deadline: u64, signal: &DeadlineSignal) {
+        signal.pause(self.rt, ms, deadline);
+    }
+
     fn begin_turn(&self, of: Loop) {
         let mut steady = self.steady.lock(self.rt);
         steady.begin_turn(of, self.machine.now());
+        MutexGuard::unlock(steady);
+    }
+
+    fn begin_pause(&self, of: Loop, ms: u64) {
+        let mut steady = self.steady.lock(self.rt);
+        steady.begin_pause(of, ms, self.machine.now());
         MutexGuard::unlock(steady);
     }
 

@@ -16,7 +16,7 @@ use lg_clock::{Clock, Loop};
 use lg_detector::Reply;
 use lg_rules::Addr;
 use lg_timing::Moment;
-use lg_turns::{Ended, Link, MAX_DATAGRAM, MAX_TURNS, ReceivingLoop, Shared, Side, Why};
+use lg_turns::{Ended, Link, LoopEnd, MAX_DATAGRAM, MAX_TURNS, ReceivingLoop, Shared, Side, Why};
 use std::sync::Wait;
 use std::sync::atomic::Ordering::SeqCst;
 
@@ -37,6 +37,7 @@ fn hear<A: AgentName, R: Wait, L: Link, C>(
 {
     match calling::datagram(shared, &mut side.pass, now, source, bytes, reply) {
         Ok(heard) => {
+            shared.deadlines.tell(shared.rt, reply.next);
             // The detector has dropped a packet of another group, so a Page of one brought no table.
             if heard.group != shared.group {
                 shared.counters.note_other_group();
@@ -76,6 +77,30 @@ fn receive_turn<A: AgentName, R: Wait, L: Link, C: Clock>(
     }
 }
 
+/// Wakes the ticking loop if the stop flag is set, unless it was woken for that before. Returns whether it has been.
+fn wake_to_stop<R: Wait, C>(shared: &Shared<'_, R, C>, is_woken: bool) -> bool {
+    if is_woken || !shared.stop.load(SeqCst) {
+        return is_woken;
+    }
+    shared.deadlines.tell(shared.rt, 0);
+    true
+}
+
+/// Ends the loop of a side as [`Side::end_loop`] does with the stop flag, and wakes the ticking loop for that.
+fn end_loop<A: AgentName, R: Wait, L, C>(
+    shared: &Shared<'_, R, C>,
+    side: Side<'_, L, A>,
+    end: LoopEnd,
+) -> Ended<L, A>
+    ensures link { result.link ≡ side.entry.link }
+    ensures spent { result.spent ≡ side.entry.pass }
+    ensures end { result.end ≡ end }
+{
+    let ended = side.end_loop(shared.stop, end);
+    shared.deadlines.tell(shared.rt, 0);
+    ended
+}
+
 impl ReceivingLoop for NodeLoops {
     fn receive_loop<A: AgentName, R: Wait, L: Link, C: Clock>(
         shared: &Shared<'_, R, C>,
@@ -85,22 +110,24 @@ impl ReceivingLoop for NodeLoops {
         let mut buffer = [0; MAX_DATAGRAM];
         let mut reply = Reply::default();
         let mut stretch = Stretch::new();
+        let mut is_woken = false;
         for _ in shared.rt.forever() {
             if stretch.turns == shared.bound {
                 if !shared.endless {
-                    return side.end_loop(shared.stop, stretch.end(Why::ReadBound));
+                    return end_loop(shared, side, stretch.end(Why::ReadBound));
                 }
                 stretch = Stretch::new();
                 continue;
             }
             shared.clock.begin_turn(Loop::Receiving);
             if shared.over.load(SeqCst) {
-                return side.end_loop(shared.stop, stretch.end(Why::Stopped));
+                return end_loop(shared, side, stretch.end(Why::Stopped));
             }
+            is_woken = wake_to_stop(shared, is_woken);
             let turned = receive_turn(shared, &mut side, &mut buffer, &mut reply);
             stretch.add(&turned);
             if let Some(why) = turned.why {
-                return side.end_loop(shared.stop, stretch.end(why));
+                return end_loop(shared, side, stretch.end(why));
             }
         }
         unreachable!()

@@ -54,27 +54,38 @@ fn tick<A: AgentName, R: Wait, L: Link, C, D: Dice>(
 }
 
 /// How long a turn pauses at a moment that has nothing to do for so long, besides a tick at the next deadline.
-fn pause_for(deadline: u64, now: Moment, limit: u64, wait_ms: u64) -> u64
-    ensures { (plan : Planned) → (since : ℕ) → (before : List Turn) → (agenda : Agenda)
-        → IsAgenda plan since before agenda → IsDuty plan agenda now (duty.Rest limit)
-        → result ≡ longest_pause wait_ms deadline plan since before now }
+fn pause_for(plan: &Plan, deadline: u64, now: Moment, limit: u64, most: u64) -> u64
+    ensures { (since : ℕ) → (before : List Turn) → (agenda : Agenda)
+        → IsAgenda plan.now since before agenda → IsDuty plan.now agenda now (duty.Rest limit)
+        → result ≡ longest_pause most deadline plan.now since before now }
 {
-    deadline
-        .saturating_sub(now.milliseconds())
-        .min(limit)
-        .min(wait_ms)
+    let now = now.milliseconds();
+    let until_tick = deadline.saturating_sub(now);
+    let until_end = plan.until.milliseconds().saturating_sub(now);
+    most.min(until_tick).min(until_end).min(limit)
+}
+
+/// Pauses for so many milliseconds, or until an earlier deadline than the next one is told. A loop that lingers tells
+/// the clock that both pause, as each turn of it counts as one of both.
+fn rest<R, C: Clock>(shared: &Shared<'_, R, C>, ms: u64, deadline: u64, lingers: bool) {
+    shared.clock.begin_pause(Loop::Ticking, ms);
+    if lingers {
+        shared.clock.begin_pause(Loop::Receiving, ms);
+    }
+    shared.clock.pause_before(ms, deadline, shared.deadlines);
 }
 
 /// The moment of the next turn, or none if the loop is to stop: its end time has come, or, if it heeds the stop flag,
 /// that flag is set. A loop that doesn't heed it lingers, and the receiving loop may have ended by then, which would
 /// hold a steady clock back for ever. So each turn of it counts as one of both loops.
-fn next_moment<R, C: Clock>(
+fn next_moment<R: Wait, C: Clock>(
     shared: &Shared<'_, R, C>,
     until: Moment,
     heeds_stop: bool,
 ) -> Option<Moment>
     ensures { IfSome result (λ now. now < until) }
 {
+    shared.deadlines.begin_turn(shared.rt);
     shared.clock.begin_turn(Loop::Ticking);
     if !heeds_stop {
         shared.clock.begin_turn(Loop::Receiving);
@@ -164,8 +175,8 @@ fn next_turn<A: AgentName, R: Wait, L: Link, C: Clock, D: Dice>(
         }
         Duty::Member => ask_member(shared, ticker, plan, agenda, now, reply),
         Duty::Rest(limit) => {
-            let pause = pause_for(deadline, now, limit, shared.wait_ms);
-            shared.clock.pause(pause);
+            let pause = pause_for(plan, deadline, now, limit, shared.pause_ms);
+            rest(shared, pause, deadline, agenda.has_left());
             Turned::on()
         }
     })

@@ -118,7 +118,7 @@ fn link_of<'n, 's, 'c, O>(counters: &'c Counters, setup: &Setup<'n, 's, O>) -> N
     ensures unfailed { failures_of result ≡ 0 }
 {
     NodeLink::new(
-        UdpLink::new(setup.socket),
+        UdpLink::new(setup.socket, setup.settings.bind),
         setup.settings.keys.as_ref(),
         counters,
     )

@@ -135,8 +135,9 @@ pub enum NodeFault {
 /// and [`NodeEnd::served`] says how that ended. A server that fails ends nothing else. It is told on `faults` when it
 /// fails, before the node ends, by [`Served::line`](lg_status_server::Served::line). Nothing else is written there.
 ///
-/// A turn of a loop waits a tenth of the configuration's `timeout_ms` at most, but at least 5 and at most 50
-/// milliseconds, and at most half of the clock's stall.
+/// A turn of the receiving loop waits a tenth of the configuration's `timeout_ms` at most, but at least 5 and at most 50
+/// milliseconds, and at most half of the clock's stall. The ticking loop pauses until there is something to do, for a
+/// second at most; a nearer deadline and the stop flag end its pause.
 ///
 /// A full history ends nothing, whether a seed is asked or a loop runs: it is rotated, and the node goes on with a
 /// summary in place of its entries. So it never has more than the configuration's `history_limit`. What ends a loop

@@ -24,7 +24,7 @@ use crate::node::{NodeEnd, NodeFault, Settings};
 use crate::serving::StatusServer;
 use crate::threads::join_threads;
 use lg_agent::{Agent, AgentName, Refusal, Spent};
-use lg_clock::{Clock, SteadyClock};
+use lg_clock::{Clock, DeadlineSignal, SteadyClock};
 use lg_counters::Counters;
 use lg_http::Signal;
 use lg_rules::Name;
@@ -42,6 +42,10 @@ use std::thread::Threads;
 
 /// The least stall of a clock that isn't the machine's, in milliseconds.
 const MIN_STALL_MS: u64 = 25;
+
+/// The longest pause of a node's ticking loop, in milliseconds (this project's choice). A nearer deadline ends it early,
+/// and so does the end of the node.
+const MAX_PAUSE_MS: u64 = 1000;
 
 /// How many passes a node has: one for the receiving loop, one for the ticking loop, one that asks the seeds and then
 /// watches, and one for the status server.
@@ -113,6 +117,8 @@ where
         bound: MAX_TURNS,
         endless: true,
         wait_ms: wait_of(setup.config, stall),
+        pause_ms: MAX_PAUSE_MS,
+        deadlines: &commons.deadlines,
     };
     let ready = match begin(&shared, &mut agent, setup, status) {
         Ok(ready) => ready,
@@ -135,6 +141,7 @@ pub(crate) struct Commons<'r, R> {
     over: AtomicBool,
     page_heard: AtomicBool,
     changes: ChangeSignal,
+    deadlines: DeadlineSignal,
 }
 
 impl<'r, R: Wait + rt::Clock> Commons<'r, R> {
@@ -148,6 +155,7 @@ impl<'r, R: Wait + rt::Clock> Commons<'r, R> {
             over: AtomicBool::new(false),
             page_heard: AtomicBool::new(false),
             changes: ChangeSignal::new(),
+            deadlines: DeadlineSignal::new(),
         }
     }
 

@@ -5,6 +5,7 @@ use crate::links::{MovingClock, PingLink, Signs, StandingClock};
 use arrayvec::ArrayVec;
 use left_right::Absorb;
 use lg_agent::{AgentName, Pass, Spent};
+use lg_clock::DeadlineSignal;
 use lg_detector::Event;
 use lg_loops::NodeLoops;
 use lg_node::{
@@ -56,6 +57,7 @@ struct Noted {
     page_heard: AtomicBool,
     counters: Counters,
     changes: ChangeSignal,
+    deadlines: DeadlineSignal,
 }
 
 impl Noted {
@@ -67,6 +69,7 @@ impl Noted {
             page_heard: AtomicBool::new(false),
             counters: Counters::new(name, at(0)),
             changes: ChangeSignal::new(),
+            deadlines: DeadlineSignal::new(),
         }
     }
 }
@@ -108,6 +111,8 @@ fn shared<'a, R, C>(
         bound: BOUND,
         endless: false,
         wait_ms: WAIT_MS,
+        pause_ms: WAIT_MS,
+        deadlines: &noted.deadlines,
     }
 }
 

@@ -102,6 +102,85 @@ const LAST: &[Row] = &[
     ),
 ];
 
+/// What a clock is handed at a moment of the machine's clock, and what has to come: the moment, and how long the clock
+/// has stood still. A loop begins a turn, or a pause of so many milliseconds.
+type PauseRow = (u64, Loop, Option<u64>, u64, u64);
+
+/// The ticking loop pauses for 500 ms from 20 ms on, and doesn't come back at its end.
+const LATE: &[PauseRow] = &[
+    (20, Receiving, None, 20, 0),
+    (20, Ticking, None, 20, 0),
+    (20, Ticking, Some(500), 20, 0),
+    (119, Receiving, None, 119, 0),
+    (218, Receiving, None, 218, 0),
+    (310, Receiving, None, 310, 0),
+    (400, Receiving, None, 400, 0),
+    (490, Receiving, None, 490, 0),
+    (580, Receiving, None, 580, 0),
+    (640, Receiving, None, 620, 20),
+    (700, Receiving, None, 620, 80),
+    (700, Ticking, None, 620, 80),
+    (710, Receiving, None, 630, 80),
+];
+
+/// The process stops for 4,000 ms while the ticking loop pauses.
+const STOPPED_IN_PAUSE: &[PauseRow] = &[
+    (20, Receiving, None, 20, 0),
+    (20, Ticking, None, 20, 0),
+    (20, Ticking, Some(500), 20, 0),
+    (40, Receiving, None, 40, 0),
+    (4040, Receiving, None, 140, 3900),
+    (4040, Ticking, None, 140, 3900),
+    (4060, Receiving, None, 160, 3900),
+];
+
+/// The ticking loop is woken at 300 ms, and is then blocked.
+const WOKEN: &[PauseRow] = &[
+    (20, Receiving, None, 20, 0),
+    (20, Ticking, Some(500), 20, 0),
+    (100, Receiving, None, 100, 0),
+    (200, Receiving, None, 200, 0),
+    (300, Ticking, None, 300, 0),
+    (300, Receiving, None, 300, 0),
+    (390, Receiving, None, 390, 0),
+    (700, Receiving, None, 400, 300),
+];
+
+/// A pause of more than an hour counts as one of an hour.
+const LONG_PAUSE: &[PauseRow] = &[
+    (0, Receiving, None, 0, 0),
+    (0, Ticking, Some(u64::MAX), 0, 0),
+    (0, Receiving, Some(u64::MAX), 0, 0),
+    (3_600_100, Receiving, Some(3_600_000), 3_600_100, 0),
+    (3_600_200, Receiving, None, 3_600_100, 100),
+];
+
+/// The index of the first row at which a clock of a stall of 100 ms gives something else than it should.
+fn first_wrong_pause(rows: &[PauseRow]) -> Option<usize> {
+    let mut steady = Steady::new(100);
+    for (i, row) in rows.iter().enumerate() {
+        let (machine, of, pause, moment, stood_still) = *row;
+        match pause {
+            Some(ms) => steady.begin_pause(of, ms, at(machine)),
+            None => steady.begin_turn(of, at(machine)),
+        }
+        let now = steady.read(at(machine)).milliseconds();
+        if now != moment || steady.stood_still() != stood_still {
+            return Some(i);
+        }
+    }
+    None
+}
+
+/// A clock in memory takes no pause for a stall.
+#[test]
+fn takes_no_pause_for_a_stall(rt: HostRuntime) {
+    for (i, rows) in [LATE, STOPPED_IN_PAUSE, WOKEN, LONG_PAUSE].iter().enumerate() {
+        let wrong = first_wrong_pause(rows);
+        assert!(rt; wrong.is_none(), "play {i}: row {wrong:?}");
+    }
+}
+
 /// The index of the first row at which a clock of a stall gives something else than it should.
 fn first_wrong(stall: u64, rows: &[Row]) -> Option<usize> {
     let mut steady = Steady::new(stall);

@@ -4,6 +4,7 @@ mod asking;
 mod both;
 mod changing;
 mod clocks;
+mod deadlines;
 mod dice;
 mod finding;
 mod keyed;

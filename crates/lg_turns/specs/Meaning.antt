@@ -1,5 +1,6 @@
 -- What is right: whoever wants to believe the contracts reads these.
 pub mod Links
+pub mod Families
 pub mod Keyed
 pub mod NodeLinks
 pub mod Words

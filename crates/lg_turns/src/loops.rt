@@ -53,7 +53,8 @@ pub trait TickingLoop {
     ///    member is one that random words choose of all that it knows, gone ones too; if it knows nobody, nobody is
     ///    asked. It does so one interval after it began, or after a look by which all seeds waited. Each further time
     ///    comes twice as long after the one before, but at most `plan.pull_ms` milliseconds after it.
-    /// 4. It pauses, until the first of these is due, `shared.wait_ms` milliseconds at most.
+    /// 4. It pauses, until the first of these is due or its end time comes, `shared.pause_ms` milliseconds at most. The
+    ///    pause ends early if a nearer deadline is told, or that it is to stop (`shared.deadlines`).
     ///
     /// A look that is refused is put off to its next time. It allocates memory for 256 records.
     ///
@@ -92,8 +93,10 @@ pub trait ReceivingLoop {
     /// It makes at most `shared.bound` turns, each of which waits for a datagram, `shared.wait_ms` milliseconds at
     /// most. If it is endless it then goes on, and counts them anew. A datagram whose bytes are no packet is dropped,
     /// and a packet that isn't sent is lost. Both are counted, and so is a packet of another group, which is heard and
-    /// does nothing. A full history ends nothing: it is rotated, as [`Pass::rotate`](lg_agent::Pass::rotate) says, and
-    /// the datagram is heard then. When a Page was heard, the loop sets `shared.page_heard`.
+    /// does nothing. It tells `shared.deadlines` when the next tick is due after each packet that it has heard, and
+    /// wakes the ticking loop by it once the stop flag is set. A full history ends nothing: it is rotated, as
+    /// [`Pass::rotate`](lg_agent::Pass::rotate) says, and the datagram is heard then. When a Page was heard, the loop
+    /// sets `shared.page_heard`.
     ///
     /// It ends with [`Why::LinkFailed`] if receiving failed, with [`Why::Refused`] if a datagram whose bytes are a
     /// packet couldn't be heard, and with [`Why::Ousted`] after a reply that says so. A datagram can't be heard if

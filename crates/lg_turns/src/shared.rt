@@ -9,6 +9,7 @@ use crate::changes::ChangeSignal;
 use crate::ending::{Ended, LoopEnd, Why};
 use left_right::Absorb;
 use lg_agent::{AgentName, Pass};
+use lg_clock::DeadlineSignal;
 use lg_counters::{Counters, Noted};
 use lg_detector::{Event, Reply};
 use lg_http::Signal;
@@ -50,8 +51,13 @@ pub struct Shared<'a, R, C> {
     pub bound: u64,
     /// Whether a loop that has made so many turns counts them anew and goes on.
     pub endless: bool,
-    /// How long one turn waits at most, in milliseconds.
+    /// How long one turn of the receiving loop waits for a datagram at most, in milliseconds.
     pub wait_ms: u64,
+    /// How long one turn of the ticking loop pauses at most, in milliseconds.
+    pub pause_ms: u64,
+    /// By which a pause of the ticking loop ends early. The receiving loop tells it the deadlines of its replies, and
+    /// that the loop is to stop.
+    pub deadlines: &'a DeadlineSignal,
 }
 
 impl<'a, R: Wait, C> Shared<'a, R, C> {

@@ -1,13 +1,13 @@
 //! A link over a UDP socket.
 //!
-//! Defined in: `specs/Meaning/Turns.antt`.
+//! Defined in: `specs/Meaning/Turns.antt`, `specs/Meaning/Families.antt`.
 //! Tested in: `lg_node_tests/src/node/asking.rt`, `cases/nodes`.
 ghost use Rattle.std.specs.Prelude.{◌≡◌, ◌+◌, MatchBool};
-ghost use Rattle.std.specs.Net.Socket.{socket_ip, socket_port};
-ghost use Rattle.lg_turns.specs.Meaning.Links.{HasBytesOf};
+ghost use Rattle.std.specs.Net.Socket.{socket_port};
+ghost use Rattle.lg_turns.specs.Meaning.Families.{CameFrom, GoesTo};
 
 use crate::link::{Link, LinkFault, MAX_DATAGRAM};
-use lg_rules::Addr;
+use lg_rules::{Addr, Ip};
 use std::io;
 use std::io::ErrorKind;
 use std::net::{IpAddr, SocketAddr, UdpSocket};
@@ -15,22 +15,29 @@ use std::time::Duration;
 
 /// A link over a socket that others may use too. Contracts see how often it failed, and nothing of the bytes.
 ///
+/// A socket that is bound at an IPv6 address has IPv4 addresses as the IPv6 addresses that map them (RFC 4291, section
+/// 2.5.5.2). So one that is bound at `::` reaches members of both families, if the system lets it (RFC 3493, section
+/// 5.3). The link has each address in its own family.
+///
 /// The failures are counted up to 2^64 - 1, and later ones aren't reported.
 #[derive(Drop)]
 pub struct UdpLink<'a> {
     socket: &'a UdpSocket,
+    /// Whether the socket is bound at an IPv6 address.
+    is_ipv6: bool,
     /// How long the socket waits, in milliseconds; 0 if that isn't known.
     limit_ms: u64,
     failures: u64,
 }
 
 impl<'a> UdpLink<'a> {
-    /// A link over a socket. It hasn't failed yet.
-    pub fn new(socket: &'a UdpSocket) -> UdpLink<'a>
+    /// A link over a socket that is bound at this address. It hasn't failed yet.
+    pub fn new(socket: &'a UdpSocket, bound: Addr) -> UdpLink<'a>
         ensures { result.failures ≡ 0 }
     {
         UdpLink {
             socket,
+            is_ipv6: matches!(bound.ip, Ip::V6(_)),
             limit_ms: 0,
             failures: 0,
         }
@@ -62,14 +69,27 @@ impl<'a> UdpLink<'a> {
     }
 }
 
-/// The address from which a datagram came.
+/// The address from which a datagram came, by what the socket says. An IPv6 address that maps one of IPv4 is taken as
+/// that.
 fn source_of(from: SocketAddr) -> Addr
-    ensures ip { HasBytesOf result.ip (socket_ip from) }
+    ensures ip { CameFrom from result.ip }
     ensures port { result.port ≡ socket_port from }
 {
-    match from.ip() {
+    match from.ip().to_canonical() {
         IpAddr::V4(ip) => Addr::v4(ip.octets(), from.port()),
         IpAddr::V6(ip) => Addr::v6(ip.octets(), from.port()),
+    }
+}
+
+/// The address at which a socket reaches another. One that is bound at an IPv6 address reaches an IPv4 address at the
+/// IPv6 address that maps it.
+fn reached_at(to: Addr, is_ipv6: bool) -> SocketAddr
+    ensures { GoesTo is_ipv6 to result }
+{
+    let plain = SocketAddr::from(to);
+    match plain.ip() {
+        IpAddr::V4(ip) if is_ipv6 => SocketAddr::new(IpAddr::V6(ip.to_ipv6_mapped()), to.port),
+        _ => plain,
     }
 }
 
@@ -88,7 +108,8 @@ impl<'a> Link for UdpLink<'a> {
     ghost failed = { λ l. l.failures };
 
     fn send(&mut self, to: Addr, bytes: &[u8]) -> Result<(), LinkFault> {
-        if self.socket.send_to(bytes, SocketAddr::from(to)).is_err() && self.count() {
+        let reached = reached_at(to, self.is_ipv6);
+        if self.socket.send_to(bytes, reached).is_err() && self.count() {
             return Err(LinkFault);
         }
         Ok(())

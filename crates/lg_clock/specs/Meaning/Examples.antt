@@ -6,11 +6,15 @@ use Rattle.lg_clock.specs.Meaning.Steady.{Handed, machine_at, moment_at, reading
 
 -- the clock is read
 abbrev read : ℕ → Handed
-read machine = record { machine = machine; turned = None }
+read machine = record { machine = machine; turned = None; pause = 0 }
 
 -- a loop begins a turn
 abbrev turn : Loop → ℕ → Handed
-turn loop machine = record { machine = machine; turned = Some loop }
+turn loop machine = record { machine = machine; turned = Some loop; pause = 0 }
+
+-- a loop begins a pause
+abbrev pause : Loop → ℕ → ℕ → Handed
+pause loop ms machine = record { machine = machine; turned = Some loop; pause = ms }
 
 -- both loops begin this many turns, one each 20 ms
 abbrev both_turning : ℕ → List Handed
@@ -65,6 +69,27 @@ blocked_moment = refl
 
 blocked_machine : machine_at (readings 100 blocked) ≡ 2040
 blocked_machine = refl
+
+-- the ticking loop pauses for 500 ms from 20 ms on, while the receiving loop turns each 20 ms: nothing is left out
+abbrev paused : List Handed
+paused = receiving_turns 24 ++ pause Ticking 500 20 ∷ both_turning 1
+
+paused_moment : moment_at (readings 100 (turn Ticking 521 ∷ paused)) ≡ 521
+paused_moment = refl
+
+-- it doesn't come back at the end of its pause, at 520 ms, so the clock stands still 100 ms behind that
+late_moment : moment_at (readings 100 (receiving_turns 40 ++ pause Ticking 500 20 ∷ both_turning 1)) ≡ 620
+late_moment = refl
+
+-- it is woken before, and is then blocked: the clock stands still 100 ms behind the turn that it began
+woken_moment : moment_at (readings 100 (turn Receiving 700 ∷ turn Receiving 360 ∷ turn Ticking 300 ∷ receiving_turns 13
+    ++ pause Ticking 500 20 ∷ both_turning 1)) ≡ 400
+woken_moment = refl
+
+-- the process stops for 4,000 ms during the pause: the receiving loop begins no turn, and the clock stands still
+stopped_in_pause : moments 100 (turn Receiving 4060 ∷ turn Ticking 4040 ∷ turn Receiving 4040 ∷ turn Receiving 40
+    ∷ pause Ticking 500 20 ∷ turn Ticking 20 ∷ turn Receiving 20 ∷ []) ≡ 160 ∷ 140 ∷ 140 ∷ 40 ∷ 20 ∷ 20 ∷ 20 ∷ []
+stopped_in_pause = refl
 
 -- nothing is left out before the first turn. The first turn of either loop is taken as one of both.
 before_the_first_turn :

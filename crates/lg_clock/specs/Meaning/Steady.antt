@@ -1,16 +1,20 @@
 -- The steady clock: the machine's clock, which leaves out the time in which one of a node's two loops began no turn
--- (this project's choice). Its stall, in milliseconds, is the most by which it passes the last turn of a loop.
+-- (this project's choice). Its stall, in milliseconds, is the most by which it passes the last turn of a loop. A loop
+-- that pauses says for how long, and its last turn is then the end of the pause.
 use Rattle.std.specs.Prelude.{ℕ, zero, suc, ◌+◌, ◌-◌, max, min, Bool, true, false, if◌then◌else◌}
 use Rattle.std.specs.Prelude.{List, [], ◌∷◌, Option, Some, None}
 use Rattle.std.specs.Option.{unwrap_or}
 use Rattle.lg_clock.specs.declared.clock.Loop.{Loop}
 use Rattle.lg_clock.specs.declared.clock.Loop.TheVariants.{Receiving, Ticking}
 use Rattle.lg_clock.specs.declared.last_turns.LastTurns.{LastTurns}
+use Rattle.lg_clock.specs.declared.last_turns.TheConstants.{LONGEST_PAUSE_MS}
 
--- what the clock is handed: a moment of the machine's clock, and the loop that began a turn then, if one did
+-- What the clock is handed: a moment of the machine's clock, and the loop that began a turn or a pause then, if one
+-- did. A pause lasts so many milliseconds. A turn counts as a pause of none.
 pub record Handed : Type 0 where
   pub machine : ℕ
   pub turned : Option Loop
+  pub pause : ℕ
 
 -- a reading of the clock: what it was handed, and the moment that it gave
 pub record Reading : Type 0 where
@@ -29,7 +33,16 @@ abbrev pub moment_at : List Reading → ℕ
 moment_at [] = 0
 moment_at (r ∷ past) = r.moment
 
--- whether it is this loop that began a turn
+-- when a pause ends that begins at a moment and lasts so many milliseconds; one of more than an hour counts as an hour
+abbrev pub pause_end : ℕ → ℕ → ℕ
+pause_end moment pause = moment + min pause LONGEST_PAUSE_MS
+
+-- the last turn of the loop that began a turn or a pause at a reading: the moment of the reading, or that at which the
+-- pause ends
+abbrev pub turn_at : Reading → ℕ
+turn_at r = pause_end r.moment r.handed.pause
+
+-- whether it is this loop that began a turn or a pause
 abbrev pub is_turn_of : Option Loop → Loop → Bool
 is_turn_of None loop = false
 is_turn_of (Some Receiving) Receiving = true
@@ -37,21 +50,21 @@ is_turn_of (Some Receiving) Ticking = false
 is_turn_of (Some Ticking) Receiving = false
 is_turn_of (Some Ticking) Ticking = true
 
--- the moment at which a loop last began a turn
+-- the last turn of a loop, if it has begun any
 abbrev pub latest_turn : Loop → List Reading → Option ℕ
 latest_turn loop [] = None
-latest_turn loop (r ∷ past) = if is_turn_of r.handed.turned loop then Some r.moment else latest_turn loop past
+latest_turn loop (r ∷ past) = if is_turn_of r.handed.turned loop then Some (turn_at r) else latest_turn loop past
 
--- the moment of the first turn, from that of the turns before a reading, if there were any, and from the reading
+-- the first turn, from that of the turns before a reading, if there were any, and from the one that began at the reading
 abbrev pub first_of : Option ℕ → Option Loop → ℕ → Option ℕ
 first_of (Some first) turned moment = Some first
 first_of None (Some loop) moment = Some moment
 first_of None None moment = None
 
--- the moment at which a loop, of whichever of the two, first began a turn
+-- the first turn of a loop, of whichever of the two
 abbrev pub first_turn : List Reading → Option ℕ
 first_turn [] = None
-first_turn (r ∷ past) = first_of (first_turn past) r.handed.turned r.moment
+first_turn (r ∷ past) = first_of (first_turn past) r.handed.turned (turn_at r)
 
 -- the last turns of both loops, from the latest turn of each and the first turn of either
 abbrev pub last_turns_by : Option ℕ → Option ℕ → Option ℕ → Option LastTurns
@@ -60,7 +73,8 @@ last_turns_by receiving ticking (Some first) =
     Some (record { receiving = unwrap_or receiving first; ticking = unwrap_or ticking first })
 
 -- the last turns of both loops after some readings. There are none before the first turn. From then on the last turn
--- of a loop is the moment at which it last began one. If it hasn't begun any, it is the moment of that first turn.
+-- of a loop is the moment at which it last began one, or the end of the pause that it has begun since. If it hasn't
+-- begun any, it is that first turn.
 abbrev pub last_turns_of : List Reading → Option LastTurns
 last_turns_of past = last_turns_by (latest_turn Receiving past) (latest_turn Ticking past) (first_turn past)
 

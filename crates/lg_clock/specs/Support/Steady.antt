@@ -5,9 +5,9 @@ use Rattle.lg_clock.specs.declared.clock.Loop.{Loop}
 use Rattle.lg_clock.specs.declared.clock.Loop.TheVariants.{Receiving, Ticking}
 use Rattle.lg_clock.specs.declared.last_turns.LastTurns.{LastTurns}
 use Rattle.lg_clock.specs.Meaning.Keeping.{IsWithinStall}
-use Rattle.lg_clock.specs.Meaning.Steady.{SteadyValue, held_back}
+use Rattle.lg_clock.specs.Meaning.Steady.{SteadyValue, held_back, pause_end}
 
--- the last turns after a loop has begun one at a moment. The first turn of either loop is taken as one of both.
+-- the last turns once this is the last turn of a loop. The first one of either loop is taken as that of both.
 abbrev pub turns_with : ℕ → Loop → Option LastTurns → LastTurns
 turns_with moment loop None = record { receiving = moment; ticking = moment }
 turns_with moment Receiving (Some turns) = record { receiving = moment; ticking = turns.ticking }
@@ -22,15 +22,15 @@ read_at machine v = record {
   turns = v.turns;
 }
 
--- the clock after a loop has begun a turn
-abbrev pub turned_at : ℕ → Loop → SteadyValue → SteadyValue
-turned_at machine loop v =
+-- the clock after a loop has begun a pause of so many milliseconds, or a turn, which counts as a pause of none
+abbrev pub turned_at : ℕ → Loop → ℕ → SteadyValue → SteadyValue
+turned_at machine loop pause v =
     let now = read_at machine v in
     record {
       stall = now.stall;
       machine = now.machine;
       moment = now.moment;
-      turns = Some (turns_with now.moment loop now.turns);
+      turns = Some (turns_with (pause_end now.moment pause) loop now.turns);
     }
 
 -- what holds of every clock

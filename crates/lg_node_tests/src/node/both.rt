@@ -9,6 +9,7 @@ use arrayvec::ArrayVec;
 use left_right::Absorb;
 use lg_agent::{AgentName, Pass, Spent};
 use lg_agent_testing::{Case, Ending, Left, Outcome};
+use lg_clock::DeadlineSignal;
 use lg_detector::Event;
 use lg_loops::NodeLoops;
 use lg_node::{
@@ -162,6 +163,8 @@ fn shared<'a, R, C>(
         bound: BOUND,
         endless: false,
         wait_ms: WAIT_MS,
+        pause_ms: WAIT_MS,
+        deadlines: &noted.deadlines,
     }
 }
 
@@ -199,6 +202,7 @@ where
         page_heard: AtomicBool::new(false),
         counters: Counters::new(name, at(0)),
         changes: ChangeSignal::new(),
+        deadlines: DeadlineSignal::new(),
     };
     let shared = shared(rt, alloc, &clock, &meeting.stop, &noted);
     let Four {

@@ -400,16 +400,16 @@ fn members_and_seeds_are_asked(rt: HostRuntime) {
     }
 }
 
-/// Loops that know nobody. There is a tick at 0, and then each turn pauses 20 ms. A loop is given by its bound, whether
+/// Loops that know nobody. There is a tick at 0, and then each turn pauses 20 ms, the last one until the end. A loop is given by its bound, whether
 /// it is endless, and its end time. Then come why it ends, how many turns are counted, and at which moment.
 const ENDS: &[(u64, bool, u64, Why, u64, u64)] = &[
-    (MANY, false, 121, Why::Stopped, 8, 140),
+    (MANY, false, 121, Why::Stopped, 8, 121),
     (3, false, 121, Why::ReadBound, 3, 40),
     (0, false, 121, Why::ReadBound, 0, 0),
     // Eight turns are two times three, and two more.
-    (3, true, 121, Why::Stopped, 2, 140),
+    (3, true, 121, Why::Stopped, 2, 121),
     // Nine turns are three times three, and none more.
-    (3, true, 141, Why::Stopped, 0, 160),
+    (3, true, 141, Why::Stopped, 0, 141),
 ];
 
 /// Whether a loop ends so, at this moment.

@@ -4,6 +4,7 @@ ghost use Rattle.std.specs.Prelude.{◌≡◌, ◌≤◌};
 use super::clocks::{FixedDice, MemoryClock};
 use arrayvec::ArrayVec;
 use lg_agent::{AgentName, Pass};
+use lg_clock::DeadlineSignal;
 use lg_loops::NodeLoops;
 use lg_node::{
     ChangeSignal, Counters, Ended, Link, MAX_TURNS, Plan, ReceivingLoop, Shared, Side, TickingLoop,
@@ -24,6 +25,7 @@ pub(super) struct Noted {
     pub(super) page_heard: AtomicBool,
     pub(super) counters: Counters,
     pub(super) changes: ChangeSignal,
+    pub(super) deadlines: DeadlineSignal,
 }
 
 impl Noted {
@@ -33,6 +35,7 @@ impl Noted {
             page_heard: AtomicBool::new(page_heard),
             counters: Counters::new(Name::default(), at(0)),
             changes: ChangeSignal::new(),
+            deadlines: DeadlineSignal::new(),
         }
     }
 }
@@ -64,6 +67,8 @@ pub(super) fn shared<'a, R>(
         bound,
         endless,
         wait_ms: WAIT_MS,
+        pause_ms: WAIT_MS,
+        deadlines: &noted.deadlines,
     }
 }
 

@@ -108,21 +108,21 @@ fn ticking_loops(rt: HostRuntime) {
     let ping = [PING_OF_C];
     let refused_ping = [REFUSED_PING_OF_C];
     // A round, and helpers that are due 500 ms later.
-    let round = ended(stopped, 28, 26, 520, 3);
+    let round = ended(stopped, 28, 26, 501, 3);
     let rows = [
         // Nobody else is known. There are ticks at 0 and 1000, and pauses between and after them.
-        ("alone", knows(1010, 0, 0), ended(stopped, 53, 51, 1020, 3)),
+        ("alone", knows(1010, 0, 0), ended(stopped, 53, 51, 1010, 3)),
         // After a call at 5000 the clock goes back. The round starts at 5000 all the same, so helpers are due at
         // 5500. The last pause before that is shorter if 20 ms don't fit.
         (
             "from 4000",
             goes_back(4000),
-            pinged(ended(stopped, 78, 76, 1520, 4), &ping),
+            pinged(ended(stopped, 78, 76, 1501, 4), &ping),
         ),
         (
             "from 4008",
             goes_back(4008),
-            pinged(ended(stopped, 78, 76, 1512, 4), &ping),
+            pinged(ended(stopped, 78, 76, 1493, 4), &ping),
         ),
         ("pings c", knows(501, 1, 0), pinged(round, &ping)),
         (
@@ -152,7 +152,7 @@ fn ticking_loops(rt: HostRuntime) {
             knows(1_000_000, 0, 0),
             ended(Why::ReadBound, BOUND, 98, 1960, 3),
         ),
-        ("full", short(), ended(stopped, 53, 51, 1020, 3).behind(2)),
+        ("full", short(), ended(stopped, 53, 51, 1010, 3).behind(2)),
     ];
     for (name, case, want) in rows {
         let outcome = told(&rt, rt.alloc(), case);

@@ -21,9 +21,9 @@ abbrev pub least_time : ℕ → List ℕ → ℕ
 least_time time others = fold min time others
 
 -- How long a turn pauses at most that finds nothing to do after the turns before it: until the first of the next
--- deadline (`due`), the next look and the next asking in turn comes, and at most `wait`.
+-- deadline (`due`), the end of the loop, the next look and the next asking in turn comes, and at most `most`.
 abbrev pub longest_pause : ℕ → ℕ → Plan → ℕ → List Turn → ℕ → ℕ
-longest_pause wait due plan since before now =
+longest_pause most due plan since before now =
     let look = look_left plan (next_look since before) now in
     let asking = asking_left plan (next_asking plan (askings_after since before)) now in
-    least_time (min wait (time_until due now)) (look ++ asking)
+    least_time (min (min most (time_until due now)) (time_until plan.until now)) (look ++ asking)
