@@ -32,6 +32,9 @@ other_refused bytes over more code body it =
     let few = it.few_fields in
     absurd (omega (arith, many, few))
 
+-- all three, for the code
+pub ruleset headless_bytes = (cut_unread, other_unread, other_refused)
+
 -- nothing has no head
 nothing-read : HasNoResponse []
 nothing-read h rest reads =

@@ -33,6 +33,9 @@ pub overfull : (bytes : List ℕ) (said : Option ℕ) → ResponseOverflows most
 overfull bytes said over code body it =
     absurd (other_refused bytes over [] code body (subst (λ (b : List ℕ). IsHttpAnswer b code body) (sym (append-nil bytes)) it))
 
+-- all three, for the code
+pub ruleset said_by_heads = (head_says, headless, overfull)
+
 -- bytes have one status code
 pub one_code : (bytes : List ℕ) (code other : ℕ) (body more : List ℕ) → IsHttpAnswer bytes code body → IsHttpAnswer bytes other more → code ≡ other
 one_code bytes code other body more a b =

@@ -14,7 +14,7 @@ use Rattle.lg_client.specs.Meaning.Waiting.{AskEvent, told_of}
 use Rattle.lg_client.specs.Meaning.Waiting.AskEvent.{AskedToLeave, Connected, Paused}
 use Rattle.lg_client.specs.Support.Leaving.{IsLeftAs, IsLeftAt}
 use Rattle.lg_client.specs.Support.Reading.{IsReadAs}
-use Rattle.lg_client.proofs.AskLaws.{untold_at}
+use Rattle.lg_client.proofs.AskLaws.{answers_from, unheard_from, untold_at}
 
 -- once
 pub asks_to_leave : (name : List ℕ) (log log' : List AskEvent) (last : Result Answer Unheard) (result : Result Answer AskFault) → log' ≡ log ++ AskedToLeave name last ∷ []
@@ -63,6 +63,9 @@ tells_leaving name body answer (Err Bad) is read = inr (refl, subst (λ (b : Lis
 tells_leaving name body answer (Err Busy) is read = absurd read
 tells_leaving name body answer (Err Memory) is read = inl refl
 tells_leaving name body answer (Err (Write fault)) is read = absurd read
+
+-- with what is told of any answer, for the code
+pub ruleset leaving_told_from = (answers_from, unheard_from, tells_leaving)
 
 -- it says that it leaves, and its end is waited for
 pub leaves_awaited : (given name said : List ℕ) (log known asked log' : List AskEvent) (fetched : Result Answer AskFault) (ended : Bool) (result : Result (Unit {0}) LeaveFault)

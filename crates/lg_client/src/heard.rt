@@ -105,7 +105,7 @@ fn judge(bytes: &[u8], fields: &[HeaderSpan], head: &ResponseSpans) -> Heard
 }
 
 /// Judges the bytes that came so far. Allocates no memory.
-#[tactic(auto, using(crate::proofs::AnswerLaws::cut_unread, crate::proofs::AnswerLaws::other_unread, crate::proofs::AnswerLaws::other_refused))]
+#[tactic(auto, using(crate::proofs::AnswerLaws::headless_bytes))]
 pub(crate) fn hear(bytes: &[u8]) -> Heard
     ensures { Hears bytes.now result }
 {

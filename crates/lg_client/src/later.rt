@@ -38,7 +38,7 @@ fn delay_by(bytes: &[u8], fields: &[HeaderSpan]) -> Option<u64>
 }
 
 /// The seconds that the head of an answer says. Allocates no memory.
-#[tactic(auto, using(crate::proofs::DelayLaws::head_says, crate::proofs::DelayLaws::headless, crate::proofs::DelayLaws::overfull))]
+#[tactic(auto, using(crate::proofs::DelayLaws::said_by_heads))]
 pub(crate) fn delay_in(bytes: &[u8]) -> Option<u64>
     ensures { HeadSays bytes.now result }
 {

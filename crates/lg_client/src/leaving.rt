@@ -80,7 +80,7 @@ fn name_from(alloc: Global, fetched: Result<Answer, AskFault>) -> Result<Name, A
 }
 
 /// The name that leaves, if an answer says that it is this one.
-#[tactic(auto, using(crate::proofs::AskLaws::answers_from, crate::proofs::AskLaws::unheard_from, crate::proofs::LeaveLaws::tells_leaving))]
+#[tactic(auto, using(crate::proofs::LeaveLaws::leaving_told_from))]
 fn leaving_from(
     alloc: Global,
     name: &Name,
