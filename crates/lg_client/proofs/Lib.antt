@@ -1,3 +1,4 @@
+pub mod AddressLaws
 pub mod AnswerLaws
 pub mod AskLaws
 pub mod AskerLaws

@@ -1,4 +1,5 @@
 -- What is right: whoever wants to believe the contracts reads these.
+pub mod AddressExamples
 pub mod Addresses
 pub mod AnswerExamples
 pub mod Answers

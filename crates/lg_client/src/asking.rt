@@ -12,11 +12,11 @@ use crate::later::delay_in;
 use crate::receiving::{Answer, receive};
 use crate::resource::{leave_text, request_text};
 use crate::unheard::{Delay, Unheard};
-use lg_rules::Name;
+use lg_rules::{Addr, Name};
 use lg_text::write_whole;
 use std::alloc::Global;
 use std::io::{Read, Write};
-use std::net::{Net, OpenStream, SocketAddr, SocketAddrV4, TcpStream};
+use std::net::{Net, OpenStream, SocketAddr, TcpStream};
 use std::time::Duration;
 use std::{io, rt, thread};
 
@@ -36,7 +36,7 @@ const UNAVAILABLE: u16 = 503;
 #[derive(Clone, Copy, Debug)]
 pub(crate) struct Node<'a> {
     pub(crate) at: &'a str,
-    pub(crate) address: SocketAddrV4,
+    pub(crate) address: Addr,
     pub(crate) patience_ms: u64,
 }
 
@@ -62,7 +62,7 @@ fn ask_over<S: Read + Write>(
 
 /// Connects to a node.
 fn connect<M: Net>(rt: &M, node: &Node<'_>) -> io::Result<M::Stream> {
-    let address = SocketAddr::V4(node.address);
+    let address = SocketAddr::from(node.address);
     TcpStream::connect_timeout(rt, &address, Duration::from_millis(CONNECT_MS))
 }
 

@@ -11,8 +11,8 @@ use thiserror::Error;
 /// Why nothing is told of a node, or not all (this project's choice).
 #[derive(Clone, Copy, Debug, PartialEq, Eq, Error)]
 pub enum AskFault {
-    /// The text spells no IPv4 address with a port; nobody was asked.
-    #[error("the address is none of the form A.B.C.D:PORT")]
+    /// The text spells no address with a port; nobody was asked.
+    #[error("the address is none of the form A.B.C.D:PORT or [IPV6]:PORT")]
     Address,
     /// Nobody listens there, or the answer didn't come whole in time.
     #[error("nobody answers, or not to the end")]

@@ -202,12 +202,13 @@ fn tell_leave<F: FaultStream>(fault: LeaveFault, faults: &mut F) -> u8
 /// Asks the node at an address to leave its group, and waits until it has ended. Gives the exit status. If all goes
 /// well, it is 0, and nothing is written or reported.
 ///
-/// The text of the address is A.B.C.D:PORT. `name` is the name of the node, 1 to 32 bytes of `A-Z a-z 0-9 . _ -`. If it
-/// is empty, the node is asked for its health first, `GET /v1/health`, as [`tell_answer`](crate::tell_answer) asks, and
-/// the name that it says is used. Then `POST /v1/leave` is sent once, with the name in the field `Lg-Leave`. A node of
-/// this name answers with the status code 200 and a body that says that this name leaves. It goes on for one interval
-/// then, and ends. So this connects to it again and again, every 100 milliseconds, until no connection can be made
-/// within 2 seconds: what stops a service ends what is left of it as soon as the command that stops it has returned.
+/// The text of the address is A.B.C.D:PORT, or an IPv6 address in brackets before :PORT. `name` is the name of the
+/// node, 1 to 32 bytes of `A-Z a-z 0-9 . _ -`. If it is empty, the node is asked for its health first,
+/// `GET /v1/health`, as [`tell_answer`](crate::tell_answer) asks, and the name that it says is used. Then
+/// `POST /v1/leave` is sent once, with the name in the field `Lg-Leave`. A node of this name answers with the status
+/// code 200 and a body that says that this name leaves. It goes on for one interval then, and ends. So this connects to
+/// it again and again, every 100 milliseconds, until no connection can be made within 2 seconds: what stops a service
+/// ends what is left of it as soon as the command that stops it has returned.
 ///
 /// If that can't be done, it is reported in a line, and the status is that of the fault ([`LeaveFault::status`]): 3 if
 /// the text spells no address or the name is none, and then nothing is sent; 7 if nobody takes the connection, or it

@@ -21,7 +21,8 @@ pub enum Resource {
 /// A question to a node, and how its answer is told.
 #[derive(Clone, Copy, Debug)]
 pub struct NodeQuestion<'a> {
-    /// The text of the address at which the node answers, A.B.C.D:PORT. It may spell no address.
+    /// The text of the address at which the node answers: A.B.C.D:PORT, or an IPv6 address in brackets before :PORT. It
+    /// may spell no address.
     pub at: &'a str,
     /// What the node is asked.
     pub resource: Resource,
@@ -58,7 +59,8 @@ pub(crate) fn changes_target(alloc: Global, after: u64) -> Result<String, AllocE
     format!(in alloc; "/v1/changes?after={after}&wait_ms=30000")
 }
 
-/// The bytes of a request for a target, to the server at an address (RFC 9112, sections 3 and 9.6).
+/// The bytes of a request for a target, to the server at an address (RFC 9112, sections 3 and 9.6). The text of the
+/// address is the field `Host` (RFC 9110, section 7.2).
 #[tactic(auto, unfolding(crate::specs::Meaning::Questions::request_text))]
 pub(crate) fn request_text(alloc: Global, target: &str, at: &str) -> Result<String, AllocError>
     ensures { IfOk result (λ request. string_bytes request ≡ request_text target.now at.now) }

@@ -98,10 +98,10 @@ fn write_told<W: Write, F: FaultStream>(told: &Told, writer: &mut W, faults: &mu
 /// Asks a node a question, and writes what it answers: its members or its health, as lines, or with `json` as the body
 /// came, with a newline behind it. Gives the exit status.
 ///
-/// The text of the address is A.B.C.D:PORT. The request is `GET /v1/members` or `GET /v1/health`, on a connection of
-/// its own. The answer has at most 1,048,576 bytes with its head, and the status code 200; that of a health may be 503
-/// too. Its body is read as JSON, and fields that aren't known are passed over. The whole text is made before its first
-/// byte is written.
+/// The text of the address is A.B.C.D:PORT, or an IPv6 address in brackets before :PORT. The request is
+/// `GET /v1/members` or `GET /v1/health`, on a connection of its own. The answer has at most 1,048,576 bytes with its
+/// head, and the status code 200; that of a health may be 503 too. Its body is read as JSON, and fields that aren't
+/// known are passed over. The whole text is made before its first byte is written.
 ///
 /// The status is 0, or 4 if the node says that it was ousted. If nothing can be told, that is reported in a line, and
 /// the status is that of the fault ([`AskFault::status`]): 3 if the text spells no address, 7 if nobody takes the

@@ -114,11 +114,11 @@ fn watch<M: Net + rt::Clock, W: Write, F: FaultStream>(
 /// and the line of its record or `forgotten` and a name; or with `json` each answer as it came. Gives the exit status
 /// once that fails.
 ///
-/// The text of the address is A.B.C.D:PORT. A request is `GET /v1/changes?after=V&wait_ms=30000`, on a connection of
-/// its own. V is 0 at first, then the version of the answer before. If that is less than what was asked for, the node
-/// has begun anew, and V is 0 again. If an answer says that changes are missing, a line `missed` comes before those of
-/// the table, but not at first. Of an answer without changes nothing is written. The text of an answer is made before
-/// its first byte is written.
+/// The text of the address is A.B.C.D:PORT, or an IPv6 address in brackets before :PORT. A request is
+/// `GET /v1/changes?after=V&wait_ms=30000`, on a connection of its own. V is 0 at first, then the version of the answer
+/// before. If that is less than what was asked for, the node has begun anew, and V is 0 again. If an answer says that
+/// changes are missing, a line `missed` comes before those of the table, but not at first. Of an answer without changes
+/// nothing is written. The text of an answer is made before its first byte is written.
 ///
 /// It ends by a fault alone, with the statuses and lines of [`tell_answer`](crate::tell_answer); but the connection may
 /// be silent for 40 seconds, since the node waits for a change. A busy node doesn't end it: this waits, and asks again.

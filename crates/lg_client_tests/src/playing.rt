@@ -218,6 +218,24 @@ where
     let listener = listen(rt)?;
     let address = listener.local_addr()?;
     let at = format!(in alloc; "{address}")?;
+    played_at(rt, net, alloc, listener, at, replies, asking)
+}
+
+/// The same if the server listens with this socket, and the command is told that it is at the address of this text.
+pub(crate) fn played_at<R, M>(
+    rt: &R,
+    net: &M,
+    alloc: Global,
+    listener: TcpListener,
+    at: String,
+    replies: &[Reply<'_>],
+    asking: &Asking,
+) -> io::Result<Seen>
+where
+    R: Net<Listener = TcpListener, Stream = TcpStream> + rt::Clock + Threads + Sync,
+    M: Net + rt::Clock + Sync,
+{
+    let address = listener.local_addr()?;
     let has_begun = AtomicBool::new(false);
     let is_over = AtomicBool::new(false);
     let is_closed = AtomicBool::new(false);

@@ -1,4 +1,4 @@
-//! Nobody answers, or not to the end; and texts that are no address.
+//! Nobody answers, or not to the end.
 
 use crate::answers::{FINE, answer};
 use crate::bodies::{CHANGE, CHANGE_TEXT, FORGOTTEN, HEALTH, SUSPECT};
@@ -9,46 +9,6 @@ use std::net::{Net, TcpListener, TcpStream};
 use std::thread::Threads;
 use std::time::Instant;
 use std::{io, rt};
-
-/// Texts that spell no IPv4 address with a port.
-const NO_ADDRESSES: &[&str] = &[
-    "",
-    "x",
-    ":",
-    ":8946",
-    "127.0.0.1",
-    "127.0.0.1:",
-    "127.0.0.1:x",
-    "127.0.0.1:+1",
-    "127.0.0.1:-1",
-    "127.0.0.1:65536",
-    "127.0.0.1:8946x",
-    "127.0.0.1:8946 ",
-    " 127.0.0.1:8946",
-    "127.0.0.1 :8946",
-    "127.0.0.1:8946:1",
-    "127.0.0.01:8946",
-    "256.0.0.1:8946",
-    "127.0.0:8946",
-    "127.0.0.1.1:8946",
-    "localhost:8946",
-    "[::1]:8946",
-    "http://127.0.0.1:8946",
-];
-
-/// Each of them, to each command.
-#[test]
-fn no_addresses(rt: HostRuntime) {
-    for at in NO_ADDRESSES {
-        for command in COMMANDS {
-            let outcome = Asking::by(command, false).run(&rt, rt.alloc(), at);
-            assert!(rt;
-                outcome.is(3, b"", "lg: bad address\n"),
-                "{command:?} at {at}: {outcome:?}"
-            );
-        }
-    }
-}
 
 /// What comes of a command if nobody listens.
 fn alone<R>(rt: &R, alloc: Global, asking: &Asking) -> io::Result<Outcome>

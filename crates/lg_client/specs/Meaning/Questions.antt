@@ -25,7 +25,7 @@ changes_codes = 200 ∷ []
 abbrev pub is_code_of : List ℕ → ℕ → Bool
 is_code_of allowed code = list_any (λ c. c == code) allowed
 
--- the bytes of a request for a target, to the server at an address
+-- The bytes of a request for a target, to the server at an address. The text of the address is the field `Host`.
 unfoldable pub request_text : List ℕ → List ℕ → List ℕ
 request_text target at =
     codes "GET " ++ (target ++ (codes " HTTP/1.1\r\nhost: " ++ (at ++ codes "\r\nconnection: close\r\n\r\n")))
