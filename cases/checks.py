@@ -2,6 +2,7 @@
 
 import os
 import shutil
+import socket
 import sys
 import time
 from concurrent.futures import ProcessPoolExecutor
@@ -24,6 +25,15 @@ def needed(*names):
     if not found:
         raise Skipped(f"there is no {names[0]}")
     return found
+
+
+def needed_ipv6():
+    """Without the address ::1 of this machine the check that needs it is skipped."""
+    try:
+        with socket.socket(socket.AF_INET6, socket.SOCK_DGRAM) as it:
+            it.bind(("::1", 0))
+    except OSError:
+        raise Skipped("this machine has no address ::1") from None
 
 
 def outcome(check, program):
