@@ -81,7 +81,8 @@ def config_wanted(group, name, first):
     lines = [line.split(" = ") for line in group.keys_of(name).splitlines()]
     given = {key: int(value) for key, value in lines if key != "status"}
     own = {"name": name, "address": HOST, "port": group.own[name], "dice": 1 + list(group.own).index(name),
-           "status": f"{HOST}:{group.status[name]}", "status_open": False, "first": first, "group": None}
+           "status": f"{HOST}:{group.status[name]}", "status_open": False, "first": first, "group": None,
+           "leave": True, "bind": f"{HOST}:{group.own[name]}"}
     seeds = [{"name": it, "address": HOST, "port": port} for it, port in group.seeds if it != name]
     return defaults() | given | own | {"seeds": seeds}
 

@@ -6,18 +6,19 @@
 ghost use Rattle.std.specs.Prelude.{◌≡◌, ◌++◌, IfOk, OnOk, codes, string_bytes};
 ghost use Rattle.std.specs.List.{flat_map};
 ghost use Rattle.lg_timing.specs.Meaning.Keys.{keys};
-ghost use Rattle.lg_answers.specs.Meaning.Bodies.{config_body, config_front, key_field, number_field, own_field};
-ghost use Rattle.lg_answers.specs.Meaning.Bodies.{group_field, group_value, open_field, seed_json};
-ghost use Rattle.lg_answers.specs.Meaning.Bodies.{status_field, status_value};
+ghost use Rattle.lg_answers.specs.Meaning.Bodies.{bind_field, config_body, config_front, group_field, key_field};
+ghost use Rattle.lg_answers.specs.Meaning.Bodies.{leaving_field, name_value, number_field, open_field, own_field};
+ghost use Rattle.lg_answers.specs.Meaning.Bodies.{seed_json, status_field, status_value, truth_text};
 ghost use Rattle.lg_answers.specs.Meaning.Members.{behind_comma, comma_separated};
 
 use crate::health::put_truth;
 use crate::members::put_address;
 use crate::snapshot::{NodeNumber, ShownConfig};
 use lg_check::text_of_name;
+use lg_config::SeedPlace;
 use lg_rules::{Addr, Name};
 use lg_text::put_addr;
-use lg_timing::{Config, KEYS, Key, Seed};
+use lg_timing::{Config, KEYS, Key};
 use std::alloc::{AllocError, Global};
 
 /// Appends the brace of an object and the name. No byte of a name needs an escape.
@@ -65,14 +66,14 @@ fn put_owns(numbers: &[NodeNumber], text: &mut String) -> Result<(), AllocError>
     Ok(())
 }
 
-/// Appends the group of the member, or `null`.
-fn put_group(group: &Option<Name>, text: &mut String) -> Result<(), AllocError>
-    ensures { OnOk result (string_bytes text.new ≡ string_bytes text.old ++ group_value group.now) }
+/// Appends a name, or `null` if there is none.
+fn put_name_value(name: &Option<Name>, text: &mut String) -> Result<(), AllocError>
+    ensures { OnOk result (string_bytes text.new ≡ string_bytes text.old ++ name_value name.now) }
 {
-    match group {
-        Some(group) => {
+    match name {
+        Some(name) => {
             text.push_str("\"")?;
-            text.push_str(text_of_name(group))?;
+            text.push_str(text_of_name(name))?;
             text.push_str("\"")
         }
         None => text.push_str("null"),
@@ -85,7 +86,7 @@ fn put_group_field(group: &Option<Name>, text: &mut String) -> Result<(), AllocE
     ensures { OnOk result (string_bytes text.new ≡ string_bytes text.old ++ group_field group.now) }
 {
     text.push_str(",\"group\":")?;
-    put_group(group, text)
+    put_name_value(group, text)
 }
 
 /// Appends where the node answers over HTTP, or `null`.
@@ -111,26 +112,54 @@ fn put_status_field(status: Option<Addr>, text: &mut String) -> Result<(), Alloc
     put_status(status, text)
 }
 
+/// Appends words, and the word for a truth behind them.
+fn put_truth_behind(words: &str, truth: bool, text: &mut String) -> Result<(), AllocError>
+    ensures { OnOk result (string_bytes text.new ≡ string_bytes text.old ++ (words.now ++ truth_text truth)) }
+{
+    text.push_str(words)?;
+    put_truth(truth, text)
+}
+
 /// Appends whether the node may answer at an address that isn't loopback, behind its key.
+#[tactic(auto, unfolding(crate::specs::Meaning::Bodies::open_field))]
 fn put_open_field(is_open: bool, text: &mut String) -> Result<(), AllocError>
     ensures { OnOk result (string_bytes text.new ≡ string_bytes text.old ++ open_field is_open) }
 {
-    text.push_str(",\"status_open\":")?;
-    put_truth(is_open, text)
+    put_truth_behind(",\"status_open\":", is_open, text)
+}
+
+/// Appends whether a request may end the node, behind its key.
+#[tactic(auto, unfolding(crate::specs::Meaning::Bodies::leaving_field))]
+fn put_leaving_field(may_end: bool, text: &mut String) -> Result<(), AllocError>
+    ensures { OnOk result (string_bytes text.new ≡ string_bytes text.old ++ leaving_field may_end) }
+{
+    put_truth_behind(",\"leave\":", may_end, text)
+}
+
+/// Appends where the node's socket for datagrams is bound, behind its key.
+#[tactic(auto, unfolding(crate::specs::Meaning::Bodies::bind_field))]
+fn put_bind_field(bind: &Addr, text: &mut String) -> Result<(), AllocError>
+    ensures { OnOk result (string_bytes text.new ≡ string_bytes text.old ++ bind_field bind.now) }
+{
+    text.push_str(",\"bind\":\"")?;
+    put_addr(bind, text)?;
+    text.push_str("\"")
 }
 
 /// Appends a seed.
 #[tactic(auto, unfolding(crate::specs::Meaning::Bodies::seed_json, crate::specs::Meaning::Members::address_fields))]
-fn put_seed(seed: &Seed, text: &mut String) -> Result<(), AllocError>
+fn put_seed(seed: &SeedPlace, text: &mut String) -> Result<(), AllocError>
     ensures { OnOk result (string_bytes text.new ≡ string_bytes text.old ++ seed_json seed.now) }
 {
-    put_name(&seed.name, text)?;
+    text.push_str("{\"name\":")?;
+    put_name_value(&seed.name, text)?;
+    text.push_str(",")?;
     put_address("\"address\":\"", &seed.addr, text)?;
     text.push_str("}")
 }
 
 /// Appends seeds, each behind a comma.
-fn put_other_seeds(seeds: &[Seed], text: &mut String) -> Result<(), AllocError>
+fn put_other_seeds(seeds: &[SeedPlace], text: &mut String) -> Result<(), AllocError>
     ensures { OnOk result
         (string_bytes text.new ≡ string_bytes text.old ++ flat_map (behind_comma seed_json) seeds.now) }
 {
@@ -142,7 +171,7 @@ fn put_other_seeds(seeds: &[Seed], text: &mut String) -> Result<(), AllocError>
 }
 
 /// Appends seeds with commas between them.
-fn put_seeds(seeds: &[Seed], text: &mut String) -> Result<(), AllocError>
+fn put_seeds(seeds: &[SeedPlace], text: &mut String) -> Result<(), AllocError>
     ensures { OnOk result (string_bytes text.new ≡ string_bytes text.old ++ comma_separated seed_json seeds.now) }
 {
     match seeds {
@@ -166,8 +195,10 @@ pub(crate) fn config_body(alloc: Global, setup: &ShownConfig) -> Result<String, 
     put_group_field(&setup.config.group, &mut text)?;
     put_status_field(setup.status, &mut text)?;
     put_open_field(setup.status_open, &mut text)?;
+    put_leaving_field(setup.leave, &mut text)?;
+    put_bind_field(&setup.bind, &mut text)?;
     text.push_str(",\"seeds\":[")?;
-    put_seeds(&setup.config.seeds, &mut text)?;
+    put_seeds(&setup.seeds, &mut text)?;
     text.push_str("]}")?;
     Ok(text)
 }

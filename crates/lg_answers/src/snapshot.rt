@@ -3,9 +3,11 @@
 //! Defined in: this file.
 //! Tested in: `lg_answers_tests/src/answer.rt`.
 
+use arrayvec::ArrayVec;
+use lg_config::SeedPlace;
 use lg_counters::{Counts, Drops};
 use lg_rules::{Addr, Incarnation, Name, Record};
-use lg_timing::{Config, Moment};
+use lg_timing::{Config, MAX_SEEDS, Moment};
 
 /// What one look at a node found.
 #[derive(Debug, Drop)]
@@ -48,7 +50,7 @@ pub struct NodeNumber {
 /// The configuration that a node runs with, defaults filled in.
 #[derive(Debug, Drop)]
 pub struct ShownConfig {
-    /// The configuration of its member.
+    /// The configuration of its member. Its own list of seeds isn't shown: `seeds` has all of them.
     pub config: Config,
     /// The numbers of the node's own, in the order in which they are shown.
     pub numbers: Vec<NodeNumber>,
@@ -56,4 +58,10 @@ pub struct ShownConfig {
     pub status: Option<Addr>,
     /// Whether it may answer at an address that isn't loopback.
     pub status_open: bool,
+    /// Whether a request over HTTP may end the node.
+    pub leave: bool,
+    /// Where its socket for datagrams is bound.
+    pub bind: Addr,
+    /// All its seeds, with names and without, in the order in which they are shown.
+    pub seeds: ArrayVec<SeedPlace, MAX_SEEDS>,
 }

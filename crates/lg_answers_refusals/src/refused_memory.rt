@@ -1,13 +1,15 @@
 //! Answers that are refused memory once. What each says is shown by `lg_answers_tests`; here three answers to one
 //! request are compared, of which one may be refused.
+use arrayvec::ArrayVec;
 use lg_answers::{
-    Changes, Drops, LeaveAsked, MAX_CHANGES, NodeNumber, ShownConfig, Snapshot, answer_to,
+    Changes, Drops, LeaveAsked, MAX_CHANGES, NodeNumber, SeedPlace, ShownConfig, Snapshot,
+    answer_to,
 };
 use lg_counters::Counters;
 use lg_http::HttpAnswer;
 use lg_status_server::leave;
 use lg_testing::{alive, at, failed, incarnation, letter, local, suspect};
-use lg_timing::{Config, Seed};
+use lg_timing::Config;
 use std::alloc::{AllocError, Global};
 use std::sync::atomic::AtomicBool;
 use std::sync::atomic::Ordering::SeqCst;
@@ -42,15 +44,18 @@ fn snapshot(alloc: Global, ousted: bool) -> Result<Snapshot, AllocError> {
 
 /// What b runs with: the default numbers, and a as its seed.
 fn setup(alloc: Global, status_open: bool) -> Result<ShownConfig, AllocError> {
-    let mut config = Config::new(letter(b'b'), local(7102));
-    let (name, addr) = (letter(b'a'), local(7101));
-    config.seeds.push(Seed { name, addr });
+    let mut seeds = ArrayVec::new();
+    let (name, addr) = (Some(letter(b'a')), local(7101));
+    seeds.push(SeedPlace { name, addr });
     let (key, value) = ("dice", 1);
     Ok(ShownConfig {
-        config,
+        config: Config::new(letter(b'b'), local(7102)),
         numbers: Vec::from_array(alloc, [NodeNumber { key, value }])?,
         status: (!status_open).then_some(local(8946)),
         status_open,
+        leave: true,
+        bind: local(7102),
+        seeds,
     })
 }
 

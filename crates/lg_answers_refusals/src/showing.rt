@@ -160,6 +160,9 @@ fn play_with<A: AgentName, R: Wait>(
         numbers: Vec::new(alloc),
         status: Some(local(8946)),
         status_open: true,
+        leave: true,
+        bind: local(7000),
+        seeds: ArrayVec::new(),
     };
     let stop = AtomicBool::new(false);
     let basis = SiteBasis {

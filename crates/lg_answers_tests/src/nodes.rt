@@ -1,12 +1,13 @@
 //! What b answers from: it knows that a is suspected by c, and that c has failed.
 use crate::target::parts_of;
+use arrayvec::ArrayVec;
 use lg_answers::{
-    Changes, Counts, Drops, MAX_CHANGES, NodeNumber, ShownConfig, Snapshot, answer_to,
+    Changes, Counts, Drops, MAX_CHANGES, NodeNumber, SeedPlace, ShownConfig, Snapshot, answer_to,
 };
 use lg_http::HttpAnswer;
-use lg_rules::{Record, Status};
+use lg_rules::{Addr, Name, Record, Status};
 use lg_testing::{at, claim, incarnation, letter, local};
-use lg_timing::{Config, Seed};
+use lg_timing::{Config, MAX_SEEDS};
 use std::alloc::{AllocError, Global};
 
 /// How b is.
@@ -14,7 +15,8 @@ use std::alloc::{AllocError, Global};
 pub enum Node {
     /// It lives, and keeps three changes.
     Usual,
-    /// It is ousted, and may answer at any address, but has none.
+    /// It is ousted, and may answer at any address, but has none. It is bound at an address of IPv6, no request may end
+    /// it, and it has no seed.
     Ousted,
     /// Before the three there were 1,024 changes of a at version 7.
     Busy,
@@ -93,23 +95,40 @@ fn snapshot(alloc: Global, ousted: bool) -> Result<Snapshot, AllocError> {
     })
 }
 
-/// A seed at a port.
-fn seed(member: u8, port: u16) -> Seed {
-    Seed {
-        name: letter(member),
-        addr: local(port),
-    }
+/// A seed of this name, or without one.
+fn seed(name: Option<Name>, addr: Addr) -> SeedPlace {
+    SeedPlace { name, addr }
 }
 
-/// The default configuration but for its interval, with two seeds.
+/// An address of IPv6 for documents (RFC 3849).
+fn documentation(port: u16) -> Addr {
+    Addr::v6(
+        [0x20, 0x01, 0x0d, 0xb8, 0, 0, 0, 0, 0, 0, 0, 0, 0, 0, 0, 1],
+        port,
+    )
+}
+
+/// The seeds of b: one without a name between two that have names, and one of IPv6.
+fn seeds() -> ArrayVec<SeedPlace, MAX_SEEDS> {
+    let seeds = [
+        seed(Some(letter(b'a')), local(7101)),
+        seed(None, local(7105)),
+        seed(Some(letter(b'd')), local(7104)),
+        seed(None, documentation(7106)),
+    ];
+    let mut kept = ArrayVec::new();
+    for seed in seeds {
+        if !kept.is_full() {
+            kept.push(seed);
+        }
+    }
+    kept
+}
+
+/// The default configuration but for its interval.
 fn config() -> Config {
     let mut config = Config::new(letter(b'b'), local(7102));
     config.interval_ms = 2000;
-    for seed in [seed(b'a', 7101), seed(b'd', 7104)] {
-        if !config.seeds.is_full() {
-            config.seeds.push(seed);
-        }
-    }
     config
 }
 
@@ -121,12 +140,19 @@ fn own(key: &'static str, value: u64) -> NodeNumber {
 /// What b runs with.
 fn setup(alloc: Global, node: Node) -> Result<ShownConfig, AllocError> {
     let is_open = node == Node::Ousted;
+    let (bind, seeds) = match node {
+        Node::Ousted => (documentation(7102), ArrayVec::new()),
+        Node::Usual | Node::Busy => (local(7102), seeds()),
+    };
     let numbers = [own("dice", 1), own("pull_ms", 30_000), own("stall_ms", 100)];
     Ok(ShownConfig {
         config: config(),
         numbers: Vec::from_array(alloc, numbers)?,
         status: (!is_open).then_some(local(8946)),
         status_open: is_open,
+        leave: !is_open,
+        bind,
+        seeds,
     })
 }
 

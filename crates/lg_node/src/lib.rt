@@ -14,6 +14,7 @@ mod start;
 mod threads;
 
 pub use following::{WatcherLeft, Watching};
+pub use lg_answers::SeedPlace;
 pub use lg_clock::{Clock, Loop, MachineClock, SteadyClock};
 pub use lg_counters::Counters;
 pub use lg_follow::Watched;

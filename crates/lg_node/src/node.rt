@@ -11,6 +11,7 @@ use crate::sockets::Sockets;
 use crate::start::{Setup, open_and_serve};
 use arrayvec::ArrayVec;
 use lg_agent::{CloseFault, Closed, Refusal};
+use lg_answers::SeedPlace;
 use lg_follow::Watched;
 use lg_rules::{Addr, Record};
 use lg_seal::Keys;
@@ -37,6 +38,8 @@ pub struct Settings {
     pub bind: Addr,
     /// The addresses of its seeds: those that it asks for their tables, in this order.
     pub seeds: ArrayVec<Addr, MAX_SEEDS>,
+    /// The seeds that its status server shows, with their names and in this order. The node asks those of `seeds`.
+    pub shown_seeds: ArrayVec<SeedPlace, MAX_SEEDS>,
     /// The number that seeds its random words.
     pub dice: u64,
     /// How long it is from one Pull for a member that random words choose to the next, in milliseconds. With 0 there is

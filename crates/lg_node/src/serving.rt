@@ -12,6 +12,7 @@ ghost use Rattle.lg_node.specs.Meaning.Starts.{Shows, hosts_of};
 
 use crate::node::{NodeFault, Settings};
 use crate::parts::Work;
+use arrayvec::ArrayVec;
 use left_right::Absorb;
 use lg_agent::{AgentName, Pass, Refusal};
 use lg_answers::{NodeNumber, ShownConfig};
@@ -45,8 +46,8 @@ fn own_number(key: &'static str, value: u64) -> NodeNumber
     NodeNumber { key, value }
 }
 
-/// The configuration that a status server shows. Allocates memory for a copy of it. The only error is that this was
-/// refused.
+/// The configuration that a status server shows. Allocates memory for the node's own numbers. The only error is that
+/// this was refused.
 fn shown_of(alloc: Global, config: &Config, settings: &Settings) -> Result<ShownConfig, AllocError>
     ensures { IfOk result (Shows config.now settings.now) }
 {
@@ -55,11 +56,16 @@ fn shown_of(alloc: Global, config: &Config, settings: &Settings) -> Result<Shown
         own_number("pull_ms", settings.pull_ms),
         own_number("stall_ms", settings.stall_ms),
     ];
+    let mut seeds = ArrayVec::new();
+    seeds.try_extend_from_slice(&settings.shown_seeds).unwrap();
     Ok(ShownConfig {
         config: config.copy(),
         numbers: Vec::from_array(alloc, numbers)?,
         status: settings.status,
         status_open: settings.status_open,
+        leave: settings.leave,
+        bind: settings.bind,
+        seeds,
     })
 }
 

@@ -220,6 +220,7 @@ fn settings_of(follow: bool) -> Settings {
     Settings {
         bind: local(7000),
         seeds: ArrayVec::new(),
+        shown_seeds: ArrayVec::new(),
         dice: 1,
         pull_ms: 0,
         stall_ms: 0,

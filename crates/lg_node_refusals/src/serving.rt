@@ -37,6 +37,7 @@ where
     let settings = Settings {
         bind: config.addr,
         seeds: ArrayVec::new(),
+        shown_seeds: ArrayVec::new(),
         dice: 1,
         pull_ms: 0,
         stall_ms: 0,

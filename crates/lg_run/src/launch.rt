@@ -17,6 +17,7 @@ use crate::telling::table_of;
 use crate::told::Told;
 use crate::wishes::{Wishes, end_wished, is_announced};
 use crate::words::{link_reason, start_line};
+use arrayvec::ArrayVec;
 use lg_config::{NodeConfig, ReadFault};
 use lg_lines::put_table;
 use lg_loops::NodeLoops;
@@ -111,9 +112,12 @@ where
 fn settings_of(node: &NodeConfig, keys: Option<Keys>, follow: bool) -> Settings
     ensures { result ≡ node_settings node.now keys follow }
 {
+    let mut shown_seeds = ArrayVec::new();
+    shown_seeds.try_extend_from_slice(&node.seeds).unwrap();
     Settings {
         bind: node.bound_at(),
         seeds: node.asked(),
+        shown_seeds,
         dice: node.dice,
         pull_ms: node.pull_ms,
         stall_ms: node.stall_ms,

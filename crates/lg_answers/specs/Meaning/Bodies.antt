@@ -7,9 +7,9 @@ use Rattle.lg_rules.specs.declared.addr.Addr.{Addr}
 use Rattle.lg_rules.specs.declared.claim.Claim.{Claim}
 use Rattle.lg_rules.specs.Meaning.Claim.{is_gone}
 use Rattle.lg_timing.specs.declared.config.Config.{Config}
-use Rattle.lg_timing.specs.declared.config.Seed.{Seed}
 use Rattle.lg_timing.specs.declared.keys.Key.{Key}
 use Rattle.lg_timing.specs.Meaning.Keys.{key_name, keys, number_of_key}
+use Rattle.lg_config.specs.declared.seeds.SeedPlace.{SeedPlace}
 use Rattle.lg_answers.specs.declared.snapshot.NodeNumber.{NodeNumber}
 use Rattle.lg_answers.specs.declared.snapshot.ShownConfig.{ShownConfig}
 use Rattle.lg_answers.specs.declared.snapshot.Snapshot.{Snapshot}
@@ -45,8 +45,7 @@ unfoldable pub health_body : Snapshot → List ℕ
 health_body s =
     health_front s ++ health_counts (live_among s.records.items) (length s.records.items) ++ health_times s
 
--- {"name":"NAME","address":"ADDRESS","port":PORT, the numbers of the member and of the node's own,
--- "status":STATUS,"status_open":OPEN,"seeds":[..]}
+-- {"name":"NAME","address":"ADDRESS","port":PORT
 abbrev pub config_front : Config → List ℕ
 config_front c = codes "{\"name\":\"" ++ (c.name ++ codes "\",") ++ address_fields c.addr
 
@@ -60,14 +59,14 @@ key_field c key = number_field (key_name key) (number_of_key key c)
 abbrev pub own_field : NodeNumber → List ℕ
 own_field own = number_field own.key.now own.value
 
--- the group of the member: "GROUP", or null if it has none
-abbrev pub group_value : Option (List ℕ) → List ℕ
-group_value None = codes "null"
-group_value (Some group) = codes "\"" ++ group ++ codes "\""
+-- a name, as that of a group or of a seed: "NAME", or null if there is none
+abbrev pub name_value : Option (List ℕ) → List ℕ
+name_value None = codes "null"
+name_value (Some name) = codes "\"" ++ name ++ codes "\""
 
--- ,"group":GROUP
+-- ,"group":GROUP, the group of the member
 unfoldable pub group_field : Option (List ℕ) → List ℕ
-group_field group = codes ",\"group\":" ++ group_value group
+group_field group = codes ",\"group\":" ++ name_value group
 
 -- where the node answers over HTTP: "ADDRESS:PORT", or null if it doesn't
 abbrev pub status_value : Option Addr → List ℕ
@@ -82,12 +81,23 @@ status_field status = codes ",\"status\":" ++ status_value status
 unfoldable pub open_field : Bool → List ℕ
 open_field is_open = codes ",\"status_open\":" ++ truth_text is_open
 
--- {"name":"NAME","address":"ADDRESS","port":PORT}
-unfoldable pub seed_json : Seed → List ℕ
-seed_json seed = codes "{\"name\":\"" ++ (seed.name ++ codes "\",") ++ address_fields seed.addr ++ codes "}"
+-- ,"leave":LEAVE, whether a request may end the node
+unfoldable pub leaving_field : Bool → List ℕ
+leaving_field may_end = codes ",\"leave\":" ++ truth_text may_end
 
+-- ,"bind":"ADDRESS:PORT", where the node's socket for datagrams is bound
+unfoldable pub bind_field : Addr → List ℕ
+bind_field addr = codes ",\"bind\":\"" ++ addr_text addr ++ codes "\""
+
+-- {"name":NAME,"address":"ADDRESS","port":PORT}: a seed without a name has the same fields as one with a name
+unfoldable pub seed_json : SeedPlace → List ℕ
+seed_json seed = codes "{\"name\":" ++ name_value seed.name ++ codes "," ++ address_fields seed.addr ++ codes "}"
+
+-- {"name":"NAME","address":"ADDRESS","port":PORT, the numbers of the member and of the node's own,
+-- "group":GROUP,"status":STATUS,"status_open":OPEN,"leave":LEAVE,"bind":"ADDRESS:PORT","seeds":[..]}
 unfoldable pub config_body : ShownConfig → List ℕ
 config_body setup =
     config_front setup.config ++ flat_map (key_field setup.config) keys ++ flat_map own_field setup.numbers.items
     ++ group_field setup.config.group ++ status_field setup.status ++ open_field setup.status_open
-    ++ codes ",\"seeds\":[" ++ comma_separated seed_json setup.config.seeds.items ++ codes "]}"
+    ++ leaving_field setup.leave ++ bind_field setup.bind
+    ++ codes ",\"seeds\":[" ++ comma_separated seed_json setup.seeds.items ++ codes "]}"

@@ -7,9 +7,10 @@ use Rattle.lg_rules.specs.declared.claim.Claim.{Claim}
 use Rattle.lg_rules.specs.declared.claim.Status.{Status}
 use Rattle.lg_rules.specs.declared.claim.Status.TheVariants as status
 use Rattle.lg_text.specs.Meaning.AddressExamples.{on_addresses}
+use Rattle.lg_config.specs.declared.seeds.SeedPlace.{SeedPlace}
 use Rattle.lg_answers.specs.declared.route.StatusKind.TheVariants.{Alive}
-use Rattle.lg_answers.specs.Meaning.Bodies.{error_body, health_counts, live_among, number_field, open_field, seed_json}
-use Rattle.lg_answers.specs.Meaning.Bodies.{status_field}
+use Rattle.lg_answers.specs.Meaning.Bodies.{bind_field, error_body, health_counts, leaving_field, live_among}
+use Rattle.lg_answers.specs.Meaning.Bodies.{number_field, open_field, seed_json, status_field}
 use Rattle.lg_answers.specs.Meaning.Members.{address_fields, comma_separated, member_body, member_fields, member_json}
 use Rattle.lg_answers.specs.Meaning.Members.{members_asked, members_front_of, moment_front}
 use Rattle.lg_answers.specs.Meaning.Metrics.{drops_sample, kind_line, members_lines, metric_head, seconds_text}
@@ -18,9 +19,9 @@ use Rattle.lg_answers.specs.Meaning.Page.{live_words, member_row, name_cells, ro
 
 -- what the rows have to unfold
 unfoldable by_writing : ⊤
-unfolding digits address_fields drops_sample kind_line live_words member_body member_fields member_json member_row
-    members_front_of members_lines metric_head moment_front name_cells open_field row_front seed_json status_cells
-    status_field status_line summary_text
+unfolding digits address_fields bind_field drops_sample kind_line leaving_field live_words member_body member_fields
+    member_json member_row members_front_of members_lines metric_head moment_front name_cells open_field row_front
+    seed_json status_cells status_field status_line summary_text
 by_writing = tt
 
 abbrev at : ℕ → Addr
@@ -111,10 +112,31 @@ a_number : number_field (codes "pull_ms") 30000 ≡ codes ",\"pull_ms\":30000"
 unfolding by_writing
 a_number = refl
 
-a_seed : seed_json record { name = codes "a"; addr = at 7101 }
-    ≡ codes "{\"name\":\"a\",\"address\":\"127.0.0.1\",\"port\":7101}"
+abbrev seed_a : SeedPlace
+seed_a = record { name = Some (codes "a"); addr = at 7101 }
+
+-- a seed without a name, over IPv6
+abbrev seed_of_nobody : SeedPlace
+seed_of_nobody = record { name = None; addr = d.addr }
+
+a_seed : seed_json seed_a ≡ codes "{\"name\":\"a\",\"address\":\"127.0.0.1\",\"port\":7101}"
 unfolding by_writing
 a_seed = refl
+
+two_seeds : comma_separated seed_json (seed_of_nobody ∷ seed_a ∷ [])
+    ≡ codes "{\"name\":null,\"address\":\"2001:db8::1\",\"port\":7104},"
+    ++ codes "{\"name\":\"a\",\"address\":\"127.0.0.1\",\"port\":7101}"
+unfolding by_writing on_addresses
+two_seeds = refl
+
+bound_at_7102 : leaving_field true ++ bind_field (at 7102) ≡ codes ",\"leave\":true,\"bind\":\"127.0.0.1:7102\""
+unfolding by_writing
+bound_at_7102 = refl
+
+bound_over_ipv6 : leaving_field false ++ bind_field d.addr
+    ≡ codes ",\"leave\":false,\"bind\":\"[2001:db8::1]:7104\""
+unfolding by_writing on_addresses
+bound_over_ipv6 = refl
 
 answers_at_8946 : status_field (Some (at 8946)) ++ open_field true
     ≡ codes ",\"status\":\"127.0.0.1:8946\",\"status_open\":true"

@@ -195,6 +195,7 @@ where
     let settings = Settings {
         bind: config(0).addr,
         seeds: ArrayVec::new(),
+        shown_seeds: ArrayVec::new(),
         dice: 1,
         pull_ms: 0,
         stall_ms: 0,

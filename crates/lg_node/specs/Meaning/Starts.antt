@@ -47,3 +47,6 @@ pub record Shows (config : Config) (settings : Settings) (shown : ShownConfig) :
   pub numbers_are : numbers_shown shown.numbers.items ≡ own_numbers settings
   pub status_is : shown.status ≡ settings.status
   pub open_is : shown.status_open ≡ settings.status_open
+  pub leave_is : shown.leave ≡ settings.leave
+  pub bind_is : shown.bind ≡ settings.bind
+  pub seeds_are : shown.seeds ≡ settings.shown_seeds

@@ -100,6 +100,7 @@ fn settings(follow: bool) -> Settings {
     Settings {
         bind: local(7000),
         seeds: ArrayVec::new(),
+        shown_seeds: ArrayVec::new(),
         dice: 1,
         pull_ms: 0,
         stall_ms: 0,

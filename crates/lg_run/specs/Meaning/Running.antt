@@ -82,6 +82,7 @@ abbrev pub node_settings : NodeConfig → Option Keys → Bool → Settings
 node_settings n keys follow = record {
   bind = bound_at n;
   seeds = record { items = asked_addrs n.config.addr n.seeds.items };
+  shown_seeds = n.seeds;
   dice = n.dice;
   pull_ms = n.pull_ms;
   stall_ms = n.stall_ms;
