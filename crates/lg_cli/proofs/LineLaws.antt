@@ -1,11 +1,19 @@
 -- A command line that is taken, by what its command did.
-use Rattle.std.proofs.Common.{◌≡◌, ℕ, List, [], Option, inl, inr, ap, sym, ◌∙◌, subst}
+use Rattle.std.proofs.Common.{◌≡◌, ℕ, List, [], Option, Some, None, inl, inr, ap, sym, ◌∙◌, subst}
 use Rattle.lg_text.specs.Meaning.Reporting.{Reported}
 use Rattle.lg_command_line.specs.declared.asked.Asked.{Asked}
 use Rattle.lg_command_line.specs.Meaning.Commands.{asked, line_faults}
 use Rattle.lg_command_line.specs.Meaning.Leaving.{IsLeft}
 use Rattle.lg_command_line.specs.Support.Requests.{request_of}
+use Rattle.lg_run.specs.declared.file.NoBytes.TheVariants as none
+use Rattle.lg_run.specs.declared.told.Told.TheVariants.{Memory}
+use Rattle.lg_run.specs.Meaning.Reporting.{LacksBytes, TellsLine}
 use Rattle.lg_cli.specs.Meaning.Running.{streams, Streams, RunsLine, RunsRequest}
+
+-- memory that is refused before there are bytes to read
+pub memory-lacks : (file : Option (List ℕ)) (reported reports : Reported) (status : ℕ) → TellsLine reported reports Memory status → LacksBytes file reported reports status
+memory-lacks None reported reports status told = told
+memory-lacks (Some file) reported reports status told = (none.Memory, told)
 
 -- what the streams are if the writer and the stream for faults are as before
 pub same-streams : {R W F : Type 0} (contents : W → Option (List ℕ)) (reported : F → Reported) (reader : R) (left : Option (List ℕ)) {writer writer' : W} {faults faults' : F} → writer' ≡ writer → faults' ≡ faults

@@ -4,8 +4,9 @@ use Rattle.std.specs.Result.{is_err}
 use Rattle.lg_rules.specs.Meaning.Name.{name_of_text}
 use Rattle.lg_text.specs.Meaning.Running.{ReadsWhole}
 use Rattle.lg_text.specs.declared.fault.RunFault.TheVariants.{Memory, Write}
-use Rattle.lg_run.specs.Meaning.Checking.{ChecksFile}
-use Rattle.lg_run.specs.Meaning.Running.{RunsFile}
+use Rattle.lg_config.specs.Meaning.Options.{SourceValue}
+use Rattle.lg_run.specs.Meaning.Checking.{ChecksSource}
+use Rattle.lg_run.specs.Meaning.Running.{RunsSource}
 use Rattle.lg_commands.specs.Meaning.Choosing.{order_text}
 use Rattle.lg_commands.specs.Meaning.Running.{FailsBy, RunsAnswer, RunsInit, RunsOrder, RunsSim, RunsTimeouts}
 use Rattle.lg_commands.specs.declared.timeouts.Numbers.{Numbers}
@@ -15,7 +16,7 @@ use Rattle.lg_command_line.specs.Meaning.Commands.{Request, answer, ask, check, 
 use Rattle.lg_command_line.specs.Meaning.Commands.{asked, line_faults}
 use Rattle.lg_command_line.specs.Meaning.Commands.{IfAnswer, IfAsk, IfCheck, IfInit, IfLeave, IfNode, IfOrder, IfSim, IfTimeouts}
 use Rattle.lg_command_line.specs.Meaning.Commands.{RefusesLine}
-use Rattle.lg_cli.specs.Meaning.Running.{Streams, RunsNamed, RunsLists, RunsNumbers, RunsScript, RunsNodeFile, RunsCheck}
+use Rattle.lg_cli.specs.Meaning.Running.{Streams, RunsNamed, RunsLists, RunsNumbers, RunsScript, RunsNodeSource, RunsCheck}
 use Rattle.lg_cli.specs.Meaning.Running.{AsksNode, RunsAsking, RunsFirstFile, RunsLeaving}
 use Rattle.lg_cli.specs.Meaning.Running.{RunsRequest, LacksUnread, LeavesUnread, RunsLine}
 
@@ -33,8 +34,8 @@ NeedsNoMachine (answer text) = Unit {0}
 NeedsNoMachine (order names words) = Unit {0}
 NeedsNoMachine (timeouts numbers) = Unit {0}
 NeedsNoMachine sim = Unit {0}
-NeedsNoMachine (node file for_ms follow until_input_ends) = ⊥
-NeedsNoMachine (check file) = ⊥
+NeedsNoMachine (node source for_ms follow until_input_ends) = ⊥
+NeedsNoMachine (check source) = ⊥
 NeedsNoMachine (ask question at json) = ⊥
 NeedsNoMachine init = Unit {0}
 NeedsNoMachine (leave at name) = ⊥
@@ -46,8 +47,8 @@ module _ (R W : Type 0) (before after : Streams R W) (status : ℕ) where
   of_answer P (order names words) run give = tt
   of_answer P (timeouts numbers) run give = tt
   of_answer P sim run give = tt
-  of_answer P (node file for_ms follow until_input_ends) run give = tt
-  of_answer P (check file) run give = tt
+  of_answer P (node source for_ms follow until_input_ends) run give = tt
+  of_answer P (check source) run give = tt
   of_answer P (ask question at json) run give = tt
   of_answer P init run give = tt
   of_answer P (leave at name) run give = tt
@@ -58,8 +59,8 @@ module _ (R W : Type 0) (before after : Streams R W) (status : ℕ) where
   of_order P (order names words) run give = give names words run
   of_order P (timeouts numbers) run give = tt
   of_order P sim run give = tt
-  of_order P (node file for_ms follow until_input_ends) run give = tt
-  of_order P (check file) run give = tt
+  of_order P (node source for_ms follow until_input_ends) run give = tt
+  of_order P (check source) run give = tt
   of_order P (ask question at json) run give = tt
   of_order P init run give = tt
   of_order P (leave at name) run give = tt
@@ -70,8 +71,8 @@ module _ (R W : Type 0) (before after : Streams R W) (status : ℕ) where
   of_timeouts P (order names words) run give = tt
   of_timeouts P (timeouts numbers) run give = give numbers run
   of_timeouts P sim run give = tt
-  of_timeouts P (node file for_ms follow until_input_ends) run give = tt
-  of_timeouts P (check file) run give = tt
+  of_timeouts P (node source for_ms follow until_input_ends) run give = tt
+  of_timeouts P (check source) run give = tt
   of_timeouts P (ask question at json) run give = tt
   of_timeouts P init run give = tt
   of_timeouts P (leave at name) run give = tt
@@ -82,33 +83,33 @@ module _ (R W : Type 0) (before after : Streams R W) (status : ℕ) where
   of_sim P (order names words) run give = tt
   of_sim P (timeouts numbers) run give = tt
   of_sim P sim run give = give run
-  of_sim P (node file for_ms follow until_input_ends) run give = tt
-  of_sim P (check file) run give = tt
+  of_sim P (node source for_ms follow until_input_ends) run give = tt
+  of_sim P (check source) run give = tt
   of_sim P (ask question at json) run give = tt
   of_sim P init run give = tt
   of_sim P (leave at name) run give = tt
 
-  of_node : (P : List ℕ → Option ℕ → Bool → Type 0) (r : Request) → RunsRequest before after r status
-      → ((file : List ℕ) (for_ms : Option ℕ) (follow : Bool) → RunsNodeFile before after file for_ms follow status → P file for_ms follow)
-      → IfNode r (λ file for_ms follow until_input_ends. P file for_ms follow)
+  of_node : (P : SourceValue → Option ℕ → Bool → Type 0) (r : Request) → RunsRequest before after r status
+      → ((source : SourceValue) (for_ms : Option ℕ) (follow : Bool) → RunsNodeSource before after source for_ms follow status → P source for_ms follow)
+      → IfNode r (λ source for_ms follow until_input_ends. P source for_ms follow)
   of_node P (answer text) run give = tt
   of_node P (order names words) run give = tt
   of_node P (timeouts numbers) run give = tt
   of_node P sim run give = tt
-  of_node P (node file for_ms follow until_input_ends) run give = give file for_ms follow run
-  of_node P (check file) run give = tt
+  of_node P (node source for_ms follow until_input_ends) run give = give source for_ms follow run
+  of_node P (check source) run give = tt
   of_node P (ask question at json) run give = tt
   of_node P init run give = tt
   of_node P (leave at name) run give = tt
 
-  of_check : (P : List ℕ → Type 0) (r : Request) → RunsRequest before after r status
-      → ((file : List ℕ) → RunsCheck before after file status → P file) → IfCheck r P
+  of_check : (P : SourceValue → Type 0) (r : Request) → RunsRequest before after r status
+      → ((source : SourceValue) → RunsCheck before after source status → P source) → IfCheck r P
   of_check P (answer text) run give = tt
   of_check P (order names words) run give = tt
   of_check P (timeouts numbers) run give = tt
   of_check P sim run give = tt
-  of_check P (node file for_ms follow until_input_ends) run give = tt
-  of_check P (check file) run give = give file run
+  of_check P (node source for_ms follow until_input_ends) run give = tt
+  of_check P (check source) run give = give source run
   of_check P (ask question at json) run give = tt
   of_check P init run give = tt
   of_check P (leave at name) run give = tt
@@ -121,8 +122,8 @@ module _ (R W : Type 0) (before after : Streams R W) (status : ℕ) where
   of_ask P (order names words) run give = tt
   of_ask P (timeouts numbers) run give = tt
   of_ask P sim run give = tt
-  of_ask P (node file for_ms follow until_input_ends) run give = tt
-  of_ask P (check file) run give = tt
+  of_ask P (node source for_ms follow until_input_ends) run give = tt
+  of_ask P (check source) run give = tt
   of_ask P (ask question at json) run give = give question at json run
   of_ask P init run give = tt
   of_ask P (leave at name) run give = tt
@@ -133,8 +134,8 @@ module _ (R W : Type 0) (before after : Streams R W) (status : ℕ) where
   of_init P (order names words) run give = tt
   of_init P (timeouts numbers) run give = tt
   of_init P sim run give = tt
-  of_init P (node file for_ms follow until_input_ends) run give = tt
-  of_init P (check file) run give = tt
+  of_init P (node source for_ms follow until_input_ends) run give = tt
+  of_init P (check source) run give = tt
   of_init P (ask question at json) run give = tt
   of_init P init run give = give run
   of_init P (leave at name) run give = tt
@@ -145,8 +146,8 @@ module _ (R W : Type 0) (before after : Streams R W) (status : ℕ) where
   of_leave P (order names words) run give = tt
   of_leave P (timeouts numbers) run give = tt
   of_leave P sim run give = tt
-  of_leave P (node file for_ms follow until_input_ends) run give = tt
-  of_leave P (check file) run give = tt
+  of_leave P (node source for_ms follow until_input_ends) run give = tt
+  of_leave P (check source) run give = tt
   of_leave P (ask question at json) run give = tt
   of_leave P init run give = tt
   of_leave P (leave at name) run give = give at name run
@@ -158,8 +159,8 @@ module _ (R W : Type 0) (before after : Streams R W) (status : ℕ) where
   run_fails (order names words) other run one = run.failed one
   run_fails (timeouts numbers) other run one = run.failed one
   run_fails sim other run one = run.failed one
-  run_fails (node file for_ms follow until_input_ends) other run one = absurd other
-  run_fails (check file) other run one = absurd other
+  run_fails (node source for_ms follow until_input_ends) other run one = absurd other
+  run_fails (check source) other run one = absurd other
   run_fails (ask question at json) other run one = absurd other
   run_fails init other run one = run.failed one
   run_fails (leave at name) other run one = absurd other
@@ -170,8 +171,8 @@ module _ (R W : Type 0) (before after : Streams R W) (status : ℕ) where
   run_isnt_refused (order names words) other run = run.run
   run_isnt_refused (timeouts numbers) other run = run.run
   run_isnt_refused sim other run = run.run
-  run_isnt_refused (node file for_ms follow until_input_ends) other run = absurd other
-  run_isnt_refused (check file) other run = absurd other
+  run_isnt_refused (node source for_ms follow until_input_ends) other run = absurd other
+  run_isnt_refused (check source) other run = absurd other
   run_isnt_refused (ask question at json) other run = absurd other
   run_isnt_refused init other run = run.run
   run_isnt_refused (leave at name) other run = absurd other
@@ -192,8 +193,8 @@ all_answer P (answer text) give = give text
 all_answer P (order names words) give = tt
 all_answer P (timeouts numbers) give = tt
 all_answer P sim give = tt
-all_answer P (node file for_ms follow until_input_ends) give = tt
-all_answer P (check file) give = tt
+all_answer P (node source for_ms follow until_input_ends) give = tt
+all_answer P (check source) give = tt
 all_answer P (ask question at json) give = tt
 all_answer P init give = tt
 all_answer P (leave at name) give = tt
@@ -203,8 +204,8 @@ all_order P (answer text) give = tt
 all_order P (order names words) give = give names words
 all_order P (timeouts numbers) give = tt
 all_order P sim give = tt
-all_order P (node file for_ms follow until_input_ends) give = tt
-all_order P (check file) give = tt
+all_order P (node source for_ms follow until_input_ends) give = tt
+all_order P (check source) give = tt
 all_order P (ask question at json) give = tt
 all_order P init give = tt
 all_order P (leave at name) give = tt
@@ -214,8 +215,8 @@ all_timeouts P (answer text) give = tt
 all_timeouts P (order names words) give = tt
 all_timeouts P (timeouts numbers) give = give numbers
 all_timeouts P sim give = tt
-all_timeouts P (node file for_ms follow until_input_ends) give = tt
-all_timeouts P (check file) give = tt
+all_timeouts P (node source for_ms follow until_input_ends) give = tt
+all_timeouts P (check source) give = tt
 all_timeouts P (ask question at json) give = tt
 all_timeouts P init give = tt
 all_timeouts P (leave at name) give = tt
@@ -225,31 +226,31 @@ all_sim P (answer text) give = tt
 all_sim P (order names words) give = tt
 all_sim P (timeouts numbers) give = tt
 all_sim P sim give = give
-all_sim P (node file for_ms follow until_input_ends) give = tt
-all_sim P (check file) give = tt
+all_sim P (node source for_ms follow until_input_ends) give = tt
+all_sim P (check source) give = tt
 all_sim P (ask question at json) give = tt
 all_sim P init give = tt
 all_sim P (leave at name) give = tt
 
-all_node : (P : List ℕ → Option ℕ → Bool → Type 0) (r : Request) → ((file : List ℕ) (for_ms : Option ℕ) (follow : Bool) → P file for_ms follow)
-    → IfNode r (λ file for_ms follow until_input_ends. P file for_ms follow)
+all_node : (P : SourceValue → Option ℕ → Bool → Type 0) (r : Request) → ((source : SourceValue) (for_ms : Option ℕ) (follow : Bool) → P source for_ms follow)
+    → IfNode r (λ source for_ms follow until_input_ends. P source for_ms follow)
 all_node P (answer text) give = tt
 all_node P (order names words) give = tt
 all_node P (timeouts numbers) give = tt
 all_node P sim give = tt
-all_node P (node file for_ms follow until_input_ends) give = give file for_ms follow
-all_node P (check file) give = tt
+all_node P (node source for_ms follow until_input_ends) give = give source for_ms follow
+all_node P (check source) give = tt
 all_node P (ask question at json) give = tt
 all_node P init give = tt
 all_node P (leave at name) give = tt
 
-all_check : (P : List ℕ → Type 0) (r : Request) → ((file : List ℕ) → P file) → IfCheck r P
+all_check : (P : SourceValue → Type 0) (r : Request) → ((source : SourceValue) → P source) → IfCheck r P
 all_check P (answer text) give = tt
 all_check P (order names words) give = tt
 all_check P (timeouts numbers) give = tt
 all_check P sim give = tt
-all_check P (node file for_ms follow until_input_ends) give = tt
-all_check P (check file) give = give file
+all_check P (node source for_ms follow until_input_ends) give = tt
+all_check P (check source) give = give source
 all_check P (ask question at json) give = tt
 all_check P init give = tt
 all_check P (leave at name) give = tt
@@ -260,8 +261,8 @@ all_ask P (answer text) give = tt
 all_ask P (order names words) give = tt
 all_ask P (timeouts numbers) give = tt
 all_ask P sim give = tt
-all_ask P (node file for_ms follow until_input_ends) give = tt
-all_ask P (check file) give = tt
+all_ask P (node source for_ms follow until_input_ends) give = tt
+all_ask P (check source) give = tt
 all_ask P (ask question at json) give = give question at json
 all_ask P init give = tt
 all_ask P (leave at name) give = tt
@@ -271,8 +272,8 @@ all_init P (answer text) give = tt
 all_init P (order names words) give = tt
 all_init P (timeouts numbers) give = tt
 all_init P sim give = tt
-all_init P (node file for_ms follow until_input_ends) give = tt
-all_init P (check file) give = tt
+all_init P (node source for_ms follow until_input_ends) give = tt
+all_init P (check source) give = tt
 all_init P (ask question at json) give = tt
 all_init P init give = give
 all_init P (leave at name) give = tt
@@ -282,8 +283,8 @@ all_leave P (answer text) give = tt
 all_leave P (order names words) give = tt
 all_leave P (timeouts numbers) give = tt
 all_leave P sim give = tt
-all_leave P (node file for_ms follow until_input_ends) give = tt
-all_leave P (check file) give = tt
+all_leave P (node source for_ms follow until_input_ends) give = tt
+all_leave P (check source) give = tt
 all_leave P (ask question at json) give = tt
 all_leave P init give = tt
 all_leave P (leave at name) give = give at name
@@ -393,48 +394,48 @@ module _ (R W : Type 0) (before after : Streams R W) (line : List (List ℕ)) (s
   ]
 
   -- `node` is run, unless memory was refused for reading the line
-  pub launched : line_faults line ≡ [] → IfNode (asked line) (λ file for_ms follow until_input_ends.
-      RunsFile before.writer after.writer before.held after.held before.reported after.reported file for_ms follow status
+  pub launched : line_faults line ≡ [] → IfNode (asked line) (λ source for_ms follow until_input_ends.
+      RunsSource before.writer after.writer before.held after.held before.reported after.reported source for_ms follow status
       ⊎ ((status ≡ 1) × FailsBy before.reported after.reported before.writer after.writer))
   launched none = elim (runs.taken none) [
-    | inl run ↦ of_node R W before after status (λ file for_ms follow. RunsFile before.writer after.writer before.held after.held before.reported after.reported file for_ms follow status
-        ⊎ ((status ≡ 1) × FailsBy before.reported after.reported before.writer after.writer)) (asked line) run (λ file for_ms follow r. inl r.launched)
-    | inr lacks ↦ all_node (λ file for_ms follow. RunsFile before.writer after.writer before.held after.held before.reported after.reported file for_ms follow status
-        ⊎ ((status ≡ 1) × FailsBy before.reported after.reported before.writer after.writer)) (asked line) (λ file for_ms follow. inr (lacks.1.is, lacks_fails R W before after status lacks))
+    | inl run ↦ of_node R W before after status (λ source for_ms follow. RunsSource before.writer after.writer before.held after.held before.reported after.reported source for_ms follow status
+        ⊎ ((status ≡ 1) × FailsBy before.reported after.reported before.writer after.writer)) (asked line) run (λ source for_ms follow r. inl r.launched)
+    | inr lacks ↦ all_node (λ source for_ms follow. RunsSource before.writer after.writer before.held after.held before.reported after.reported source for_ms follow status
+        ⊎ ((status ≡ 1) × FailsBy before.reported after.reported before.writer after.writer)) (asked line) (λ source for_ms follow. inr (lacks.1.is, lacks_fails R W before after status lacks))
   ]
 
-  pub launched_unread : IfNode (asked line) (λ file for_ms follow until_input_ends. after.reader ≡ before.reader)
+  pub launched_unread : IfNode (asked line) (λ source for_ms follow until_input_ends. after.reader ≡ before.reader)
   launched_unread = elim (nil_or (line_faults line)) [
     | inl none ↦ elim (runs.taken none) [
-      | inl run ↦ of_node R W before after status (λ file for_ms follow. after.reader ≡ before.reader) (asked line) run (λ file for_ms follow r. r.unread)
-      | inr lacks ↦ all_node (λ file for_ms follow. after.reader ≡ before.reader) (asked line) (λ file for_ms follow. lacks.0)
+      | inl run ↦ of_node R W before after status (λ source for_ms follow. after.reader ≡ before.reader) (asked line) run (λ source for_ms follow r. r.unread)
+      | inr lacks ↦ all_node (λ source for_ms follow. after.reader ≡ before.reader) (asked line) (λ source for_ms follow. lacks.0)
     ]
     | inr some ↦ elim (runs.left some) [
-      | inl leaves ↦ all_node (λ file for_ms follow. after.reader ≡ before.reader) (asked line) (λ file for_ms follow. leaves.0)
-      | inr lacks ↦ all_node (λ file for_ms follow. after.reader ≡ before.reader) (asked line) (λ file for_ms follow. lacks.0)
+      | inl leaves ↦ all_node (λ source for_ms follow. after.reader ≡ before.reader) (asked line) (λ source for_ms follow. leaves.0)
+      | inr lacks ↦ all_node (λ source for_ms follow. after.reader ≡ before.reader) (asked line) (λ source for_ms follow. lacks.0)
     ]
   ]
 
   -- `check` is run, unless memory was refused for reading the line
-  pub checked : line_faults line ≡ [] → IfCheck (asked line) (λ file.
-      ChecksFile before.writer after.writer before.held after.held before.reported after.reported file status
+  pub checked : line_faults line ≡ [] → IfCheck (asked line) (λ source.
+      ChecksSource before.writer after.writer before.held after.held before.reported after.reported source status
       ⊎ ((status ≡ 1) × FailsBy before.reported after.reported before.writer after.writer))
   checked none = elim (runs.taken none) [
-    | inl run ↦ of_check R W before after status (λ file. ChecksFile before.writer after.writer before.held after.held before.reported after.reported file status
-        ⊎ ((status ≡ 1) × FailsBy before.reported after.reported before.writer after.writer)) (asked line) run (λ file r. inl r.checked)
-    | inr lacks ↦ all_check (λ file. ChecksFile before.writer after.writer before.held after.held before.reported after.reported file status
-        ⊎ ((status ≡ 1) × FailsBy before.reported after.reported before.writer after.writer)) (asked line) (λ file. inr (lacks.1.is, lacks_fails R W before after status lacks))
+    | inl run ↦ of_check R W before after status (λ source. ChecksSource before.writer after.writer before.held after.held before.reported after.reported source status
+        ⊎ ((status ≡ 1) × FailsBy before.reported after.reported before.writer after.writer)) (asked line) run (λ source r. inl r.checked)
+    | inr lacks ↦ all_check (λ source. ChecksSource before.writer after.writer before.held after.held before.reported after.reported source status
+        ⊎ ((status ≡ 1) × FailsBy before.reported after.reported before.writer after.writer)) (asked line) (λ source. inr (lacks.1.is, lacks_fails R W before after status lacks))
   ]
 
-  pub checked_unread : IfCheck (asked line) (λ file. after.reader ≡ before.reader)
+  pub checked_unread : IfCheck (asked line) (λ source. after.reader ≡ before.reader)
   checked_unread = elim (nil_or (line_faults line)) [
     | inl none ↦ elim (runs.taken none) [
-      | inl run ↦ of_check R W before after status (λ file. after.reader ≡ before.reader) (asked line) run (λ file r. r.unread)
-      | inr lacks ↦ all_check (λ file. after.reader ≡ before.reader) (asked line) (λ file. lacks.0)
+      | inl run ↦ of_check R W before after status (λ source. after.reader ≡ before.reader) (asked line) run (λ source r. r.unread)
+      | inr lacks ↦ all_check (λ source. after.reader ≡ before.reader) (asked line) (λ source. lacks.0)
     ]
     | inr some ↦ elim (runs.left some) [
-      | inl leaves ↦ all_check (λ file. after.reader ≡ before.reader) (asked line) (λ file. leaves.0)
-      | inr lacks ↦ all_check (λ file. after.reader ≡ before.reader) (asked line) (λ file. lacks.0)
+      | inl leaves ↦ all_check (λ source. after.reader ≡ before.reader) (asked line) (λ source. leaves.0)
+      | inr lacks ↦ all_check (λ source. after.reader ≡ before.reader) (asked line) (λ source. lacks.0)
     ]
   ]
 

@@ -3,12 +3,13 @@
 //!
 //! Defined in: `lg_run/specs/Meaning/Reporting.antt`.
 //! Tested in: `cases/node.case`, `cases/node_command.case`, `cases/groups`.
-ghost use Rattle.std.specs.Prelude.{◌≡◌, IfErr, OnOk};
-ghost use Rattle.lg_run.specs.Meaning.Reporting.{TellsLine, TellsNoBytes};
-ghost use Rattle.lg_run.specs.declared.file.NoBytes.{NoBytes};
+ghost use Rattle.std.specs.Prelude.{◌≡◌, IfErr, IfOk, OnOk};
+ghost use Rattle.lg_config.specs.Meaning.Options.{source_of};
+ghost use Rattle.lg_run.specs.Meaning.Reporting.{AreBytesOf, LacksBytes, TellsLine};
 
 use crate::output::{Pumped, start_pump};
-use lg_run::{Told, file_bytes, tell_no_bytes};
+use lg_config::Source;
+use lg_run::{Told, source_bytes};
 use lg_text::{FaultStream, report};
 use std::alloc::{AllocError, Global};
 use std::io::{Read, Write};
@@ -30,8 +31,8 @@ pub struct Owned<I, O> {
 /// What the words of the command `node` ask for, except when it ends (`--for-ms`).
 #[derive(Clone, Copy, Debug)]
 pub struct NodeWords<'a> {
-    /// The path of its configuration file. There may be no such file.
-    pub file: &'a str,
+    /// Where its configuration comes from.
+    pub source: Source<'a>,
     /// Whether it tells each change of a member as it happens.
     pub follow: bool,
     /// Whether it ends once its standard input has ended.
@@ -47,10 +48,10 @@ pub struct Begun {
     pub stop: Arc<AtomicBool, Global>,
 }
 
-/// Gets what a node is run with: first the bytes of its file ([`file_bytes`]), then its stop flag and its threads
+/// Gets what a node is run with: first the bytes of its file ([`source_bytes`]), then its stop flag and its threads
 /// ([`stop_flag`]). If it follows, `writer` hands its texts to a thread from then on.
 ///
-/// If one of them can't be had, that is told, and the `Err` is the exit status: that of [`tell_no_bytes`], or that of
+/// If one of them can't be had, that is told, and the `Err` is the exit status: that of [`source_bytes`], or that of
 /// [`Told::Memory`]. Nothing is written in any case.
 pub fn begin_node<M, I, O, W, F>(
     rt: &M,
@@ -66,21 +67,22 @@ where
     W: Pumped,
     F: FaultStream,
     ensures silent { OnOk result (faults.new ≡ faults.old) }
-    ensures told { IfErr result (λ status. (none : NoBytes)
-        × TellsNoBytes (F.reported faults.old) (F.reported faults.new) words.now.file.now none status) }
+    ensures bytes { IfOk result (λ begun. AreBytesOf (source_of words.now.source).file begun.bytes.items) }
+    ensures told { IfErr result (λ status. LacksBytes (source_of words.now.source).file
+        (F.reported faults.old) (F.reported faults.new) status) }
 {
     let alloc = rt.alloc();
     let NodeWords {
-        file,
+        source,
         follow,
         until_input_ends,
     } = *words;
-    let bytes = match file_bytes(rt, alloc, file) {
+    let bytes = match source_bytes(rt, alloc, source, faults) {
         Ok(bytes) => bytes,
-        Err(none) => {
+        Err(status) => {
             // Handed to `drop`, so that the checker doesn't take it apart here, as `bytes` below.
             drop(owned);
-            return Err(tell_no_bytes(alloc, file, none, faults));
+            return Err(status);
         }
     };
     let Ok(stop) = stop_flag(rt, alloc, owned, until_input_ends, follow, writer) else {

@@ -18,8 +18,9 @@ use crate::node::{NodeWords, Owned, begin_node};
 use crate::output::Pumped;
 use lg_client::leave_node;
 use lg_command_line::{Asked, MAX_RUN_MS, take_words};
+use lg_config::Source;
 use lg_commands::{FAILED, USAGE, answer_named, order_lists, simulate, timeouts_of, write_init};
-use lg_run::{Wishes, check_file, run_bytes};
+use lg_run::{Wishes, check_source, run_bytes};
 use lg_text::{FaultStream, RunFault, report};
 use lg_timing::Moment;
 use std::alloc::Global;
@@ -37,10 +38,10 @@ use std::{io, rt};
 /// `reader`, `writer` and `faults` stand for standard input, output and error. Only `answer` and `sim` read. `owned`
 /// has standard input and output too, for the threads of `node --until-input-ends` and `node --follow`
 /// ([`begin_node`]). A line that `faults` doesn't take is dropped. `node`, `check`, `members`, `status`, `watch` and
-/// `leave` alone use the machine `rt`. The first two read their file. `node` takes sockets, a clock and threads, writes
-/// its members, and tells its end, with the statuses of [`run_bytes`]. If its file gives no bytes, or its stop flag
-/// can't be had, it isn't run, and has the status of [`begin_node`]. `check` has those of [`check_file`]. The other
-/// four ask a running node, with the statuses of [`tell_answer`](lg_client::tell_answer),
+/// `leave` alone use the machine `rt`. The first two read their file, if one is named. `node` takes sockets, a clock
+/// and threads, writes its members, and tells its end, with the statuses of [`run_bytes`]. If its file gives no bytes,
+/// or its stop flag can't be had, it isn't run, and has the status of [`begin_node`]. `check` has those of
+/// [`check_source`]. The other four ask a running node, with the statuses of [`tell_answer`](lg_client::tell_answer),
 /// [`watch_changes`](lg_client::watch_changes) and [`leave_node`]. The statuses of all other command lines are:
 ///
 /// - 0 if all was done. This includes help and the version, if they were asked for and written.
@@ -86,6 +87,7 @@ where
     };
     let Asked::Node {
         file,
+        given,
         for_ms,
         follow,
         until_input_ends,
@@ -94,23 +96,31 @@ where
         drop(owned);
         return run_other(rt, asked, reader, writer, faults);
     };
-    let node = NodeWords {
+    let source = Source {
         file,
+        given: given.as_slice(),
+    };
+    let node = NodeWords {
+        source,
         follow,
         until_input_ends,
     };
     let begun = match begin_node(rt, &node, owned, writer, faults) {
         Ok(begun) => begun,
-        Err(status) => return status,
+        Err(status) => {
+            drop(given);
+            return status;
+        }
     };
     let wishes = Wishes {
-        file,
+        source,
         until: end_after(for_ms),
         follow,
         stop: &begun.stop,
     };
     let status = run_bytes(rt, alloc, &begun.bytes, &wishes, writer, faults);
     drop(begun);
+    drop(given);
     status
 }
 
@@ -127,7 +137,7 @@ where
     R: Read,
     W: Write,
     F: FaultStream,
-    requires other { IfNode (request_of asked) (λ file for_ms follow until_input_ends. ⊥) }
+    requires other { IfNode (request_of asked) (λ source for_ms follow until_input_ends. ⊥) }
     requires good { IfTimeouts (request_of asked) (λ numbers. are_good numbers ≡ true) }
     ensures { RunsRequest
         (streams reader.old (R.remaining reader.old) writer.old (W.contents writer.old) (F.reported faults.old))
@@ -136,7 +146,15 @@ where
 {
     let alloc = rt.alloc();
     match asked {
-        Asked::Check { file } => check_file(rt, alloc, file, writer, faults),
+        Asked::Check { file, given } => {
+            let source = Source {
+                file,
+                given: given.as_slice(),
+            };
+            let status = check_source(rt, alloc, source, writer, faults);
+            drop(given);
+            status
+        }
         Asked::Ask { question, at, json } => {
             let words = AskWords { question, at, json };
             ask_node(rt, alloc, &words, writer, faults)
@@ -158,8 +176,8 @@ where
     R: Read,
     W: Write,
     F: FaultStream,
-    requires no_node { IfNode (request_of asked) (λ file for_ms follow until_input_ends. ⊥) }
-    requires no_check { IfCheck (request_of asked) (λ file. ⊥) }
+    requires no_node { IfNode (request_of asked) (λ source for_ms follow until_input_ends. ⊥) }
+    requires no_check { IfCheck (request_of asked) (λ source. ⊥) }
     requires no_question { IfAsk (request_of asked) (λ question at json. ⊥) }
     requires no_leave { IfLeave (request_of asked) (λ at name. ⊥) }
     requires good { IfTimeouts (request_of asked) (λ numbers. are_good numbers ≡ true) }

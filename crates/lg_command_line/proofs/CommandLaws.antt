@@ -22,9 +22,10 @@ use Rattle.clap.specs.declared.builder.value_parser.ValueParser.{ValueParser}
 use Rattle.clap.specs.declared.builder.value_parser.ValueParser.TheVariants.{Unsigned}
 use Rattle.clap.proofs.ValueTestLemmas.{accepts-Accepts, Accepts-accepts}
 use Rattle.lg_command_line.specs.declared.command.CommandRow.{CommandRow}
+use Rattle.lg_command_line.specs.declared.key_options.KeyRow.{KeyRow}
 use Rattle.lg_command_line.specs.declared.options.OptionRow.{OptionRow}
 use Rattle.lg_command_line.specs.Meaning.Commands.{option_number}
-use Rattle.lg_command_line.specs.Support.Options.{app_of_row, rule_of_row, with_option, with_row, with_rows}
+use Rattle.lg_command_line.specs.Support.Options.{app_of_row, rule_of_key, rule_of_row, with_key_rule, with_option, with_row, with_rows}
 
 abbrev any_number : ValueParser
 any_number = Unsigned 0 18446744073709551615
@@ -101,6 +102,19 @@ pub has_rows : (command : Command) (start : App) (rows : List OptionRow) (n : �
     → MakesApp command (fold with_option start (take n rows)) → MakesApp command (fold with_option start rows)
 has_rows command start rows n all made =
     subst (λ (some : List OptionRow). MakesApp command (fold with_option start some)) (take_all n rows all) made
+
+-- one key more of a command's options
+pub adds_key : (old new : Command) (arg : Arg) (start : App) (rows : List KeyRow) (i : ℕ) (d : KeyRow) → i < length rows
+    → AddsArg old arg new → arg.global ≡ false → rule_of arg ≡ rule_of_key (get_or rows i d)
+    → MakesApp old (fold with_key_rule start (take i rows)) → MakesApp new (fold with_key_rule start (take (i + 1) rows))
+adds_key old new arg start rows i d within adds local is made =
+    subst (MakesApp new) (sym (fold_more with_key_rule start rows i d within)) (adds_rule old new arg _ _ adds local is made)
+
+-- all keys of a command's options
+pub has_keys : (command : Command) (start : App) (rows : List KeyRow) (n : ℕ) → length rows ≤ n
+    → MakesApp command (fold with_key_rule start (take n rows)) → MakesApp command (fold with_key_rule start rows)
+has_keys command start rows n all made =
+    subst (λ (some : List KeyRow). MakesApp command (fold with_key_rule start some)) (take_all n rows all) made
 
 -- one command more
 pub one_row_more : (old new : Command) (start : App) (rows : List CommandRow) (i : ℕ) (d : CommandRow) → i < length rows

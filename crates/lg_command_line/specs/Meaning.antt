@@ -1,5 +1,7 @@
 -- What is right: whoever wants to believe the contracts reads these.
 pub mod Commands
 pub mod Examples
+pub mod KeyExamples
+pub mod KeyOptions
 pub mod Leaving
 pub mod Ranges

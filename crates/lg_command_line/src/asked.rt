@@ -7,6 +7,7 @@ ghost use Rattle.lg_command_line.specs.Meaning.Commands.{has_good_numbers};
 ghost use Rattle.lg_command_line.specs.Support.Requests.{request_of};
 
 use lg_commands::Numbers;
+use lg_config::Given;
 
 /// The longest run of a node that is given an end, one day, in milliseconds (this project's choice).
 pub const MAX_RUN_MS: u64 = 86_400_000;
@@ -27,7 +28,7 @@ pub enum Question {
 }
 
 /// What a command line asks for.
-#[derive(Clone, Copy, Debug)]
+#[derive(Debug, Drop)]
 pub enum Asked<'a> {
     /// The command `answer`, with the text that should be the detector's name.
     Answer {
@@ -41,10 +42,12 @@ pub enum Asked<'a> {
         /// The text of the words, which may be bad.
         words: &'a str,
     },
-    /// The command `node`, with the path of its configuration, when it ends and whether it tells what changes.
+    /// The command `node`, with where its configuration comes from, when it ends and whether it tells what changes.
     Node {
-        /// The path, which may name no file.
-        file: &'a str,
+        /// The path of its file, if one is named. There may be no such file.
+        file: Option<&'a str>,
+        /// What options give for keys.
+        given: Vec<Given<'a>>,
         /// For how many milliseconds it runs: 1 to [`MAX_RUN_MS`]. If it is none, the time doesn't end it.
         for_ms: Option<u64>,
         /// Whether it tells each change of a member as it happens.
@@ -52,10 +55,12 @@ pub enum Asked<'a> {
         /// Whether it ends once its standard input has ended.
         until_input_ends: bool,
     },
-    /// The command `check`, with the path of a configuration.
+    /// The command `check`, with where a configuration comes from.
     Check {
-        /// The path, which may name no file.
-        file: &'a str,
+        /// The path of its file, if one is named. There may be no such file.
+        file: Option<&'a str>,
+        /// What options give for keys.
+        given: Vec<Given<'a>>,
     },
     /// One of the commands `members`, `status` and `watch`, which ask a running node.
     Ask {

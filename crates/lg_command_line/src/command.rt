@@ -3,12 +3,14 @@
 //! Defined in: `specs/Meaning/Commands.antt`.
 //! Tested in: `cases/command_line.case`, `cases/timeouts_command.case`, `cases/node_command.case`.
 ghost use Rattle.std.specs.Prelude.{◌≡◌, IfOk, false};
-ghost use Rattle.clap.specs.Simple.{app_of, with_subcommand};
+ghost use Rattle.std.specs.List.{fold};
+ghost use Rattle.clap.specs.Simple.{app_of, new_app, with_subcommand};
 ghost use Rattle.clap.specs.declared.builder.command.Command.TheViews.{out-Command as fields_of};
 ghost use Rattle.lg_command_line.specs.Meaning.Commands.{lg_app};
-ghost use Rattle.lg_command_line.specs.Support.Options.{app_of_row, bare_lg, with_rows};
+ghost use Rattle.lg_command_line.specs.Support.Options.{app_of_row, bare_lg, with_key_rule, with_option, with_rows};
 
 use crate::asked::{DEFAULT_AT, MAX_RUN_MS};
+use crate::key_options::{KEY_ROWS, KeyRow, option_of_key};
 use crate::options::{OptionRow, Takes, option_of};
 use crate::version::VERSION;
 use clap::Command;
@@ -21,12 +23,14 @@ pub(crate) struct CommandRow<'a> {
     pub(crate) name: &'a str,
     pub(crate) about: &'a str,
     pub(crate) options: &'a [OptionRow<'a>],
+    /// The keys of a configuration that have options, which stand behind the others.
+    pub(crate) keys: &'a [KeyRow<'a>],
 }
 
 const CONFIG: OptionRow<'static> = OptionRow {
     id: "config",
-    takes: Takes::RequiredText("FILE"),
-    help: "The file that has the node's configuration",
+    takes: Takes::OptionalText("FILE"),
+    help: "The file that has the node's configuration; without it, the options below are all that is given",
 };
 
 const AT: OptionRow<'static> = OptionRow {
@@ -55,6 +59,7 @@ const COMMANDS: [CommandRow<'static>; 11] = [
             takes: Takes::RequiredText("NAME"),
             help: "The name of the detector, of 1 to 32 bytes of A-Z a-z 0-9 . _ -",
         }],
+        keys: &[],
     },
     CommandRow {
         name: "order",
@@ -71,6 +76,7 @@ const COMMANDS: [CommandRow<'static>; 11] = [
                 help: "The words, numbers from 0 to 4294967295 between commas",
             },
         ],
+        keys: &[],
     },
     CommandRow {
         name: "timeouts",
@@ -102,15 +108,17 @@ const COMMANDS: [CommandRow<'static>; 11] = [
                 help: "The protocol period, in milliseconds",
             },
         ],
+        keys: &[],
     },
     CommandRow {
         name: "sim",
         about: "Simulates a cluster of members from a script, and writes what each replies",
         options: &[],
+        keys: &[],
     },
     CommandRow {
         name: "node",
-        about: "Runs a node, a member of a group, from a configuration",
+        about: "Runs a node, a member of a group, from a file and options",
         options: &[
             CONFIG,
             OptionRow {
@@ -129,31 +137,37 @@ const COMMANDS: [CommandRow<'static>; 11] = [
                 help: "Ends the node once its standard input has ended",
             },
         ],
+        keys: &KEY_ROWS,
     },
     CommandRow {
         name: "check",
-        about: "Writes what the configuration of a node means, and runs nothing",
+        about: "Writes what a file and options of a node mean, and runs nothing",
         options: &[CONFIG],
+        keys: &KEY_ROWS,
     },
     CommandRow {
         name: "init",
         about: "Writes a configuration of a node to begin with",
         options: &[],
+        keys: &[],
     },
     CommandRow {
         name: "members",
         about: "Writes whom a running node knows",
         options: ASK,
+        keys: &[],
     },
     CommandRow {
         name: "status",
         about: "Writes the health of a running node",
         options: ASK,
+        keys: &[],
     },
     CommandRow {
         name: "watch",
         about: "Writes each change of a member that a running node tells, until the node ends",
         options: ASK,
+        keys: &[],
     },
     CommandRow {
         name: "leave",
@@ -166,12 +180,14 @@ const COMMANDS: [CommandRow<'static>; 11] = [
                 help: "The node's name; without it, the node is asked for it first",
             },
         ],
+        keys: &[],
     },
 ];
 
-/// The command of a row, with its options. The error is refused memory.
-fn command_of<'a>(alloc: Global, row: &CommandRow<'a>) -> Result<Command<'a>, AllocError>
-    ensures app { IfOk result (λ command. app_of command ≡ app_of_row row.now) }
+/// A command with the options of these rows, before it has those of keys. The error is refused memory.
+fn with_options<'a>(alloc: Global, row: &CommandRow<'a>) -> Result<Command<'a>, AllocError>
+    ensures app { IfOk result (λ command.
+        app_of command ≡ fold with_option (new_app row.now.name.now) row.now.options.now) }
     ensures local { IfOk result (λ command. (fields_of command).has_globals ≡ false) }
 {
     let mut command = Command::new(alloc, row.name).about(row.about);
@@ -179,6 +195,32 @@ fn command_of<'a>(alloc: Global, row: &CommandRow<'a>) -> Result<Command<'a>, Al
         command = command.arg(option_of(alloc, option))?;
     }
     Ok(command)
+}
+
+/// A command with the options of these keys behind those that it has. The error is refused memory.
+fn with_keys<'a>(
+    alloc: Global,
+    command: Command<'a>,
+    keys: &[KeyRow<'a>],
+) -> Result<Command<'a>, AllocError>
+    requires { (fields_of command).has_globals ≡ false }
+    ensures app { IfOk result (λ made. app_of made ≡ fold with_key_rule (app_of command.entry) keys.now) }
+    ensures local { IfOk result (λ made. (fields_of made).has_globals ≡ false) }
+{
+    let mut with_some = command;
+    for key in keys {
+        with_some = with_some.arg(option_of_key(alloc, key))?;
+    }
+    Ok(with_some)
+}
+
+/// The command of a row, with its options. The error is refused memory.
+fn command_of<'a>(alloc: Global, row: &CommandRow<'a>) -> Result<Command<'a>, AllocError>
+    ensures app { IfOk result (λ command. app_of command ≡ app_of_row row.now) }
+    ensures local { IfOk result (λ command. (fields_of command).has_globals ≡ false) }
+{
+    let command = with_options(alloc, row)?;
+    with_keys(alloc, command, row.keys)
 }
 
 /// The program with the command of a row behind those that it has. The error is refused memory.

@@ -2,12 +2,14 @@
 //!
 //! Where to read on:
 //! - which command a command line asks for, and why one is refused: `specs/Meaning/Commands.antt`;
+//! - the options of the keys of a configuration: `specs/Meaning/KeyOptions.antt`;
 //! - what becomes of a command line that isn't run: `specs/Meaning/Leaving.antt`;
 //! - what the commands do: `lg_commands`, `lg_run` and `lg_client`, which `lg_cli` calls.
 #![tactic(auto)]
 
 mod asked;
 mod command;
+mod key_options;
 mod options;
 mod taking;
 mod version;

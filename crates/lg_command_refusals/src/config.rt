@@ -1,23 +1,56 @@
 //! Configuration files that are read, and the reasons of their faults, while memory is refused once.
-use lg_config::{FileFault, MAX_FILE, NodeConfig, ReadFault, reason};
+use lg_config::{FileFault, Given, MAX_FILE, NodeConfig, ReadFault, reason};
 use std::alloc::{AllocError, Global};
 
-/// Bytes that are no text, or that are empty, take no memory. For another file, refused memory is answered and
-/// nothing else, and the next reading goes well.
+/// Options of each kind: a text, a number that is no port, and seeds.
+const GIVEN: &[Given<'static>] = &[
+    Given {
+        key: "name",
+        text: "b",
+    },
+    Given {
+        key: "port",
+        text: "0",
+    },
+    Given {
+        key: "seeds",
+        text: "1.2.3.4",
+    },
+    Given {
+        key: "seeds",
+        text: "1.2.3.5",
+    },
+];
+
+/// No options.
+const NONE: &[Given<'static>] = &[];
+
+/// An option whose text is no number.
+const NO_NUMBER: &[Given<'static>] = &[Given {
+    key: "port",
+    text: "x",
+}];
+
+/// Bytes that are no text, or that are empty, take no memory if there are no options. For another file, and for
+/// options, refused memory is answered and nothing else, and the next reading goes well.
 #[test]
 fn refused_memory(rt: HostRuntime) {
     let long = [b'\n'; MAX_FILE + 1];
     let faulty = b"name = \"b\"\nport = 0\nseeds = [\"c@1.2.3.4:1\"]\ninterval_ms = 5\n";
     let rows = [
-        (1, long.as_slice(), FileFault::Syntax),
-        (1, b"\xff".as_slice(), FileFault::Syntax),
-        (1, &long[..MAX_FILE], FileFault::Key),
-        (2, faulty.as_slice(), FileFault::Value),
+        (1, long.as_slice(), NONE, FileFault::Syntax),
+        (1, b"\xff".as_slice(), NONE, FileFault::Syntax),
+        (1, &long[..MAX_FILE], NONE, FileFault::Key),
+        (1, long.as_slice(), GIVEN, FileFault::Syntax),
+        (2, faulty.as_slice(), NONE, FileFault::Value),
+        (2, b"".as_slice(), GIVEN, FileFault::Value),
+        (2, b"name = 1\nport = true".as_slice(), GIVEN, FileFault::Value),
+        (2, b"name = \"b\"".as_slice(), NO_NUMBER, FileFault::Key),
     ];
-    for (readings, bytes, fault) in rows {
-        let mut found = NodeConfig::read(rt.alloc(), bytes).err();
+    for (readings, bytes, given, fault) in rows {
+        let mut found = NodeConfig::read(rt.alloc(), bytes, given).err();
         if readings == 2 && found == Some(ReadFault::NoMemory) {
-            found = NodeConfig::read(rt.alloc(), bytes).err();
+            found = NodeConfig::read(rt.alloc(), bytes, given).err();
         }
         assert_eq!(rt; found, Some(ReadFault::File(fault)));
     }
@@ -55,9 +88,9 @@ fn names(alloc: Global, key: &str, nearest: Option<&str>) -> Result<bool, AllocE
         )?,
         None => format!(in alloc; "the key \"{key}\" is unknown\n")?,
     };
-    let line = match reason(alloc, text.as_bytes(), FileFault::Key) {
+    let line = match reason(alloc, text.as_bytes(), NONE, FileFault::Key) {
         Ok(line) => line,
-        Err(AllocError) => reason(alloc, text.as_bytes(), FileFault::Key)?,
+        Err(AllocError) => reason(alloc, text.as_bytes(), NONE, FileFault::Key)?,
     };
     Ok(line.as_str() == wanted.as_str())
 }

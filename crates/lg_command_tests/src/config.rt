@@ -1,6 +1,7 @@
 //! What configuration files mean, value by value. The cases of the program show which files are faulty, and how.
 use lg_config::{
-    DEFAULT_ADDRESS, DEFAULT_PORT, FileFault, MAX_FILE, NodeConfig, SeedPlace, reason,
+    DEFAULT_ADDRESS, DEFAULT_PORT, FileFault, Given, KNOWN_KEYS, MAX_FILE, NodeConfig, SeedPlace,
+    reason,
 };
 use lg_rules::Addr;
 use lg_testing::name;
@@ -8,10 +9,11 @@ use lg_testing::name;
 /// A seed: its name, which is empty if it has none, its address and its port.
 type Known = (&'static [u8], [u8; 4], u16);
 
-/// A file of a member b, and what it means.
+/// A file of a member b and options, and what they mean together.
 #[derive(Clone, Copy, Debug)]
 struct Row {
     text: &'static str,
+    given: &'static [Given<'static>],
     octets: [u8; 4],
     port: u16,
     dice: u64,
@@ -70,6 +72,130 @@ leave = \"off\"
 bind = \"0.0.0.0\"
 seeds = [\"c@127.0.0.1:7002\", \"10.1.2.4\", \"10.1.2.3:7001\", \"a@1.2.3.4:5\"]
 ";
+
+/// Options that give what the file with all keys says.
+const ALL_GIVEN: &[Given<'static>] = &[
+    Given {
+        key: "name",
+        text: "b",
+    },
+    Given {
+        key: "address",
+        text: "10.1.2.3",
+    },
+    Given {
+        key: "port",
+        text: "7001",
+    },
+    Given {
+        key: "dice",
+        text: "42",
+    },
+    Given {
+        key: "interval_ms",
+        text: "200",
+    },
+    Given {
+        key: "timeout_ms",
+        text: "50",
+    },
+    Given {
+        key: "indirect",
+        text: "0",
+    },
+    Given {
+        key: "max_score",
+        text: "1",
+    },
+    Given {
+        key: "alpha",
+        text: "2",
+    },
+    Given {
+        key: "beta",
+        text: "3",
+    },
+    Given {
+        key: "confirmations",
+        text: "4",
+    },
+    Given {
+        key: "lambda",
+        text: "5",
+    },
+    Given {
+        key: "nack_thousandths",
+        text: "6",
+    },
+    Given {
+        key: "history_limit",
+        text: "7",
+    },
+    Given {
+        key: "wire",
+        text: "3",
+    },
+    Given {
+        key: "forget_ms",
+        text: "86400000",
+    },
+    Given {
+        key: "gossip_ms",
+        text: "0",
+    },
+    Given {
+        key: "gossip_to",
+        text: "8",
+    },
+    Given {
+        key: "pull_ms",
+        text: "3600000",
+    },
+    Given {
+        key: "stall_ms",
+        text: "0",
+    },
+    Given {
+        key: "status",
+        text: "10.1.2.3:8946",
+    },
+    Given {
+        key: "status_open",
+        text: "true",
+    },
+    Given {
+        key: "key_file",
+        text: "/etc/lg/group.key",
+    },
+    Given {
+        key: "group",
+        text: "grn",
+    },
+    Given {
+        key: "leave",
+        text: "off",
+    },
+    Given {
+        key: "bind",
+        text: "0.0.0.0",
+    },
+    Given {
+        key: "seeds",
+        text: "c@127.0.0.1:7002",
+    },
+    Given {
+        key: "seeds",
+        text: "10.1.2.4",
+    },
+    Given {
+        key: "seeds",
+        text: "10.1.2.3:7001",
+    },
+    Given {
+        key: "seeds",
+        text: "a@1.2.3.4:5",
+    },
+];
 
 /// Whether a seed of a file is this one.
 fn is_seed(seed: &SeedPlace, known: &Known) -> bool {
@@ -134,14 +260,16 @@ fn is_of(node: &NodeConfig, row: &Row) -> bool {
         && has_seeds(node, row)
 }
 
-/// Each value of some files: one with only its name, one that writes the defaults, one with all keys, one at the other
-/// edges of the node's own numbers, one with the last address of loopback for its status server, one that would allow
-/// any but has no such server, one that lets a request end the node, one with seeds at the member's own address, one
-/// whose socket is bound elsewhere, and one whose address and port the program can't have.
+/// Each value of some files: one with only its name, one with all keys, an empty one beside options of all keys, one
+/// whose values are wrong beside these, one whose seed an option replaces, one that writes the defaults, one at the
+/// other edges of the node's own numbers, one with the last address of loopback for its status server, one that would
+/// allow any but has no such server, one that lets a request end the node, one with seeds at the member's own address,
+/// one whose socket is bound elsewhere, and one whose address and port the program can't have.
 #[test]
 fn each_value(rt: HostRuntime) {
     let alone = Row {
         text: "name = \"b\"",
+        given: &[],
         octets: [127, 0, 0, 1],
         port: 7946,
         dice: 2_189_494_717_179_526_441,
@@ -156,37 +284,59 @@ fn each_value(rt: HostRuntime) {
         leave: true,
         bind: None,
     };
+    let all = Row {
+        text: ALL,
+        octets: [10, 1, 2, 3],
+        port: 7001,
+        dice: 42,
+        own: [3_600_000, 0],
+        numbers: [200, 50, 0, 1, 2, 3, 4, 5, 6, 7, 3, 86_400_000, 0, 8],
+        seeds: &[
+            (b"c", [127, 0, 0, 1], 7002),
+            (b"", [10, 1, 2, 4], 7946),
+            (b"", [10, 1, 2, 3], 7001),
+            (b"a", [1, 2, 3, 4], 5),
+        ],
+        known: &[(b"c", [127, 0, 0, 1], 7002), (b"a", [1, 2, 3, 4], 5)],
+        asked: &[
+            ([127, 0, 0, 1], 7002),
+            ([10, 1, 2, 4], 7946),
+            ([1, 2, 3, 4], 5),
+        ],
+        status: (Some(Addr::v4([10, 1, 2, 3], 8946)), true),
+        key_file: Some("/etc/lg/group.key"),
+        group: Some(b"grn"),
+        leave: false,
+        bind: Some(Addr::v4([0, 0, 0, 0], 7001)),
+        ..alone
+    };
     let rows = [
         alone,
+        all,
+        Row {
+            text: "",
+            given: ALL_GIVEN,
+            ..all
+        },
+        Row {
+            text: "name = \"c\"\nport = 0\nseeds = [\"d@1.2.3.4:5\"]\nleave = 1",
+            given: ALL_GIVEN,
+            ..all
+        },
+        Row {
+            text: "name = \"b\"\nseeds = [\"a@127.0.0.1:7946\"]",
+            given: &[Given {
+                key: "seeds",
+                text: "127.0.0.1:7947",
+            }],
+            seeds: &[(b"", [127, 0, 0, 1], 7947)],
+            asked: &[([127, 0, 0, 1], 7947)],
+            ..alone
+        },
         Row {
             text: "name = \"b\"\naddress = \"127.0.0.1\"\nport = 7946\ndice = 1\npull_ms = 30000\nstall_ms = 100",
             dice: 1,
             ..alone
-        },
-        Row {
-            text: ALL,
-            octets: [10, 1, 2, 3],
-            port: 7001,
-            dice: 42,
-            own: [3_600_000, 0],
-            numbers: [200, 50, 0, 1, 2, 3, 4, 5, 6, 7, 3, 86_400_000, 0, 8],
-            seeds: &[
-                (b"c", [127, 0, 0, 1], 7002),
-                (b"", [10, 1, 2, 4], 7946),
-                (b"", [10, 1, 2, 3], 7001),
-                (b"a", [1, 2, 3, 4], 5),
-            ],
-            known: &[(b"c", [127, 0, 0, 1], 7002), (b"a", [1, 2, 3, 4], 5)],
-            asked: &[
-                ([127, 0, 0, 1], 7002),
-                ([10, 1, 2, 4], 7946),
-                ([1, 2, 3, 4], 5),
-            ],
-            status: (Some(Addr::v4([10, 1, 2, 3], 8946)), true),
-            key_file: Some("/etc/lg/group.key"),
-            group: Some(b"grn"),
-            leave: false,
-            bind: Some(Addr::v4([0, 0, 0, 0], 7001)),
         },
         Row {
             text: "name = \"b\"\npull_ms = 0\nstall_ms = 60000",
@@ -233,7 +383,7 @@ fn each_value(rt: HostRuntime) {
         },
     ];
     for row in rows {
-        let node = NodeConfig::read(rt.alloc(), row.text.as_bytes());
+        let node = NodeConfig::read(rt.alloc(), row.text.as_bytes(), row.given);
         assert!(rt;
             node.as_ref().is_ok_and(|node| is_of(node, &row)),
             "{row:?}"
@@ -241,6 +391,15 @@ fn each_value(rt: HostRuntime) {
     }
     let usual = (DEFAULT_ADDRESS, DEFAULT_PORT, MAX_FILE);
     assert!(rt; usual == ("127.0.0.1", 7946, 65_536));
+}
+
+/// The options that give all keys leave none out.
+#[test]
+fn all_keys_given(rt: HostRuntime) {
+    for key in KNOWN_KEYS {
+        let is_given = ALL_GIVEN.iter().any(|given| given.key == key);
+        assert!(rt; is_given, "{key}");
+    }
 }
 
 /// A file that is no TOML is told with the line of its first fault, and what is wrong there. No contract says which.
@@ -260,7 +419,7 @@ fn reasons(rt: HostRuntime) {
     ];
     for row in rows {
         let (text, wanted) = row;
-        let line = reason(rt.alloc(), text.as_bytes(), FileFault::Syntax);
+        let line = reason(rt.alloc(), text.as_bytes(), &[], FileFault::Syntax);
         let is_wanted = line.as_ref().is_ok_and(|line| line.as_str() == wanted);
         assert!(rt; is_wanted, "{row:?}");
     }

@@ -1,4 +1,5 @@
 pub mod KeyLaws
+pub mod OptionLaws
 pub mod ReasonLaws
 pub mod SeedLaws
 pub mod TextLaws

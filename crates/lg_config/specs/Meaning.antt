@@ -22,6 +22,8 @@ pub mod LeaveReasons
 pub mod Leaves
 pub mod NearestKeys
 pub mod NodeKeys
+pub mod OptionExamples
+pub mod Options
 pub mod Quoting
 pub mod Ranges
 pub mod ReasonExamples

@@ -1,11 +1,13 @@
-//! Reads the bytes of a file as TOML.
+//! Reads the bytes of a file as TOML, and puts options in place of what it says.
 //!
-//! Defined in: `specs/Meaning/Answer.antt`.
+//! Defined in: `specs/Meaning/Answer.antt`, `Options.antt`.
 //! Tested in: `cases/config.case`.
-ghost use Rattle.lg_config.specs.Support.Reading.{IsParsed, IsText, SaysUnread};
+ghost use Rattle.lg_config.specs.Meaning.Options.{options_of};
+ghost use Rattle.lg_config.specs.Support.Reading.{IsTableWith, IsParsed, IsText, SaysUnread};
 
 use crate::fault::{FileFault, ReadFault};
-use std::alloc::Global;
+use crate::given::{Given, with_options};
+use std::alloc::{AllocError, Global};
 use std::str;
 use toml::Table;
 use toml::de::Error;
@@ -55,7 +57,7 @@ fn text_in(bytes: &[u8]) -> Result<&str, Unread>
 /// The table that the bytes of a file spell.
 ///
 /// The error says why they spell none, or that memory was refused. The memory that is allocated is that of the table.
-pub(crate) fn table_in(alloc: Global, bytes: &[u8]) -> Result<Table, Unread>
+fn table_in(alloc: Global, bytes: &[u8]) -> Result<Table, Unread>
     ensures { IsParsed bytes.now result }
 {
     let text = match text_in(bytes) {
@@ -66,5 +68,25 @@ pub(crate) fn table_in(alloc: Global, bytes: &[u8]) -> Result<Table, Unread>
         Ok(table) => Ok(table),
         Err(error) if error.is_memory() => Err(Unread::NoMemory),
         Err(error) => Err(Unread::NoToml(error)),
+    }
+}
+
+/// The table that the bytes of a file and options spell together.
+///
+/// The error says why the bytes spell none, or that memory was refused. The memory that is allocated is that of the
+/// table.
+pub(crate) fn table_with(alloc: Global, bytes: &[u8], given: &[Given<'_>]) -> Result<Table, Unread>
+    ensures { IsTableWith (options_of given.now) bytes.now result }
+{
+    let mut table = match table_in(alloc, bytes) {
+        Ok(table) => table,
+        Err(unread) => return Err(unread),
+    };
+    if given.is_empty() {
+        return Ok(table);
+    }
+    match with_options(alloc, given, &mut table) {
+        Ok(()) => Ok(table),
+        Err(AllocError) => Err(Unread::NoMemory),
     }
 }

@@ -1,8 +1,9 @@
-//! The configuration file of a node: the configuration that its bytes mean, or why they mean none.
+//! The configuration of a node: what the bytes of its file and options mean together, or why they mean nothing.
 //!
-//! [`NodeConfig::read`] reads the bytes of a file, which are TOML, and [`reason`] says in words what is wrong with
-//! them. Contracts of other crates cite `IsAnswer` and `answer_of` (`specs/Meaning/Answer.antt`), `fault_number`
-//! (`Faults.antt`), `may_listen` (`Status.antt`) and `IsReason` (`Reasons.antt`).
+//! [`NodeConfig::read`] reads the bytes of a file, which are TOML, and puts options in place of what they say.
+//! [`reason`] says in words what is wrong with both. Contracts of other crates cite `IsAnswer` and `answer_of`
+//! (`specs/Meaning/Answer.antt`), `options_of` and `source_of` (`Options.antt`), `fault_number` (`Faults.antt`),
+//! `may_listen` (`Status.antt`) and `IsReason` (`Reasons.antt`).
 #![tactic(auto)]
 
 mod bind;
@@ -12,6 +13,7 @@ mod document;
 mod family;
 mod fault;
 mod form_reasons;
+mod given;
 mod group;
 mod group_reasons;
 mod key_file;
@@ -35,8 +37,10 @@ mod texts;
 pub use dice::own_dice;
 pub use document::MAX_FILE;
 pub use fault::{FileFault, ReadFault};
+pub use given::{Given, Source};
 pub use key_file::{FilePath, MAX_PATH};
 pub use keys::FILE_KEYS;
+pub use nearest::KNOWN_KEYS;
 pub use node::NodeConfig;
 pub use node_keys::{MAX_PULL_MS, MAX_STALL_MS, NODE_KEYS, NodeKey, NodeKeyRow};
 pub use reasons::reason;

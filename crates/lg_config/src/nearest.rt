@@ -14,7 +14,7 @@ use strsim::generic_levenshtein;
 const MAX_EDITS: usize = 3;
 
 /// All known keys, in the order in which `docs/FORMATS.md` has them.
-const KNOWN_KEYS: [&str; 27] = [
+pub const KNOWN_KEYS: [&str; 27] = [
     "name",
     "address",
     "port",

@@ -11,9 +11,10 @@ ghost use Rattle.lg_config.specs.Meaning.Answer.{unless_late, unless_many, unles
 ghost use Rattle.lg_config.specs.Meaning.Settings.{item_count, seeds_at, settings_of};
 
 use crate::bind::with_bind;
-use crate::document::table_in;
+use crate::document::table_with;
 use crate::family::unless_untold;
 use crate::fault::{FileFault, ReadFault};
+use crate::given::Given;
 use crate::group::with_group;
 use crate::key_file::{FilePath, with_key_file};
 use crate::keys::are_right_keys;
@@ -29,7 +30,7 @@ use lg_timing::{Config, ConfigFault, MAX_SEEDS};
 use std::alloc::Global;
 use toml::Table;
 
-/// What the configuration file of a node says.
+/// What the configuration of a node says.
 #[derive(Debug, Drop)]
 pub struct NodeConfig {
     /// The configuration of its member. It passes its check.
@@ -155,6 +156,7 @@ fn meaning_in(table: &Table) -> Result<NodeConfig, FileFault>
 impl NodeConfig {
     ghost use Rattle.lg_config.specs.Meaning.Binding.{bound_at};
     ghost use Rattle.lg_config.specs.Meaning.NodeKeys.{own_broken, own_number};
+    ghost use Rattle.lg_config.specs.Meaning.Options.{options_of};
     ghost use Rattle.lg_config.specs.Meaning.Seeds.{asked_addrs};
     ghost use Rattle.lg_config.specs.Meaning.Status.{may_listen};
 
@@ -193,7 +195,9 @@ impl NodeConfig {
             .find(|key| !key.allows(self.own_number(*key)))
     }
 
-    /// The configuration that the bytes of a file mean.
+    /// The configuration that the bytes of a file and options mean together. An option counts in place of what the file
+    /// says of its key, and its text is what stands behind `=` in a file, but a text has no quotes. Without a file the
+    /// bytes are empty.
     ///
     /// The file is TOML. Its keys are `name`, which it must have, `address`, `port`, `dice`, `seeds`, the numbers of
     /// [`Config`] but for `first`, and those of [`NodeKey`], by the names of their fields, `status`, `status_open`,
@@ -204,15 +208,15 @@ impl NodeConfig {
     /// of these, and [`FileFault::Leave`], [`FileFault::Bind`] and [`FileFault::Family`] come last. Or the error is
     /// [`ReadFault::NoMemory`], and then nothing is known of the file.
     ///
-    /// Memory is allocated for the table that the file spells, and is freed again. For a file of more than
+    /// Memory is allocated for the table that both spell, and is freed again. For a file of more than
     /// [`MAX_FILE`](crate::MAX_FILE) bytes none is allocated.
-    pub fn read(alloc: Global, bytes: &[u8]) -> Result<NodeConfig, ReadFault>
-        ensures answer { IsAnswer bytes.now result }
+    pub fn read(alloc: Global, bytes: &[u8], given: &[Given<'_>]) -> Result<NodeConfig, ReadFault>
+        ensures answer { IsAnswer (options_of given.now) bytes.now result }
         ensures checked { IfOk result (λ node. IsChecked node.config) }
         ensures within { IfOk result (λ node. own_broken node ≡ None) }
         ensures guarded { IfOk result (λ node. may_listen node.status node.status_open ≡ true) }
     {
-        let table = table_in(alloc, bytes)?;
+        let table = table_with(alloc, bytes, given)?;
         Ok(meaning_in(&table)?)
     }
 }

@@ -1,18 +1,20 @@
-//! Says in words why a file means no configuration.
+//! Says in words why a file and options mean no configuration.
 //!
 //! Defined in: `specs/Meaning/Reasons.antt`.
 //! Tested in: `cases/config_reasons.case`, `lg_command_tests/src/config.rt`.
 ghost use Rattle.std.specs.Prelude.{◌≡◌, ◌≤◌, ℕ, List, IfOk, length, string_bytes};
 ghost use Rattle.toml.specs.Errors.{IsMemory, IsWithin, span_start};
 ghost use Rattle.toml.specs.View.{table_view};
+ghost use Rattle.lg_config.specs.Meaning.Options.{options_of};
 ghost use Rattle.lg_config.specs.Meaning.Reasons.{config_reason, key_of_fault, line_at, line_reason, reason_of};
 ghost use Rattle.lg_config.specs.Meaning.Reasons.{unnumbered_reason, IsReason, IsTomlReason};
 
 use crate::bind_reasons::bind_reason;
-use crate::document::{Unread, table_in};
+use crate::document::{Unread, table_with};
 use crate::family::family_reason;
 use crate::fault::FileFault;
 use crate::form_reasons::{key_file_reason, seeds_reason, value_reason};
+use crate::given::Given;
 use crate::group_reasons::group_reason;
 use crate::key_reasons::key_reason;
 use crate::leave_reasons::leave_reason;
@@ -123,18 +125,23 @@ fn toml_reason(alloc: Global, bytes: &[u8], error: &Error) -> Result<String, All
     line_reason(alloc, line_at(place_of(error), bytes), error.message())
 }
 
-/// What is wrong with a file whose answer is this fault, in a line of words.
+/// What is wrong with a file and options whose answer is this fault, in a line of words.
 ///
-/// It names the key, its value as the file gives it, and what is allowed. At most 64 bytes of a text are quoted, and
+/// It names the key, its value as it is given, and what is allowed. At most 64 bytes of a text are quoted, and
 /// those that aren't printable ASCII are written as `?`, so that a terminal takes them for nothing else (this
 /// project's choice). Of a file that is no TOML it names the line.
 ///
-/// The file is read once more. The only error is that memory was refused. Memory is allocated for the table that the
-/// file spells, and for the line.
-pub fn reason(alloc: Global, bytes: &[u8], fault: FileFault) -> Result<String, AllocError>
-    ensures { IfOk result (λ text. IsReason fault bytes.now (string_bytes text)) }
+/// The file is read once more. The only error is that memory was refused. Memory is allocated for the table that both
+/// spell, and for the line.
+pub fn reason(
+    alloc: Global,
+    bytes: &[u8],
+    given: &[Given<'_>],
+    fault: FileFault,
+) -> Result<String, AllocError>
+    ensures { IfOk result (λ text. IsReason fault (options_of given.now) bytes.now (string_bytes text)) }
 {
-    match table_in(alloc, bytes) {
+    match table_with(alloc, bytes, given) {
         Ok(table) => reason_of(alloc, fault, &table),
         Err(Unread::NoMemory) => Err(AllocError),
         Err(Unread::TooLong) => String::from_str(alloc, "the file has more than 65536 bytes\n"),

@@ -67,7 +67,7 @@ told-meanwhile reported before after (Ok e) told untold = told
 told-meanwhile reported before after (Err fault) told untold = ap reported untold
 
 -- A node is announced and run, by what each step says: `between` is its writer, and `meanwhile` its stream for faults, when it has ended.
-pub announced-runs : {W F : Type 0} (contents : W → Option (List ℕ)) (reported : F → Reported) (before between after : W) (faults announced meanwhile faults' : F) (file : List ℕ) (n : NodeConfig) (keys : Option Keys)
+pub announced-runs : {W F : Type 0} (contents : W → Option (List ℕ)) (reported : F → Reported) (before between after : W) (faults announced meanwhile faults' : F) (file : Option (List ℕ)) (n : NodeConfig) (keys : Option Keys)
     (wished : Option ℕ) (follow : Bool) (settings : Settings) (until : ℕ) (ran : Result NodeEnd NodeFault) (written : Result (Unit {0}) RunFault) (told : Told) (status : ℕ)
     → Announces wished follow (reported faults) (reported announced) (start_line file n) → settings ≡ node_settings n keys follow → until ≡ end_wished wished
     → IfOk ran (IsRun n.config settings until (contents before) (contents between)) → IfErr ran (IsEarly n.config) → (settings.follow ≡ false → between ≡ before) → OnErr ran (between ≡ before)

@@ -1,62 +1,76 @@
-//! Checks a configuration file: reads it, and writes what it means. Nothing is run.
+//! Checks a configuration: reads its file and options, and writes what they mean. Nothing is run.
 //!
 //! Defined in: `specs/Meaning/Checking.antt`, `lg_check/specs/Meaning/Checks.antt`.
 //! Tested in: `cases/check.case`, `lg_run_refusals/src/checks.rt`.
 ghost use Rattle.std.specs.Prelude.{◌≡◌};
 ghost use Rattle.lg_timing.specs.Meaning.Config.{IsChecked};
 ghost use Rattle.lg_check.specs.Meaning.Checks.{check_text};
-ghost use Rattle.lg_run.specs.Meaning.Checking.{check_told, ChecksBytes, ChecksFile, ChecksNode, WritesText};
+ghost use Rattle.lg_config.specs.Meaning.Options.{options_of, source_of};
+ghost use Rattle.lg_run.specs.Meaning.Checking.{check_told, ChecksBytes, ChecksNode, ChecksSource, WritesText};
 
-use crate::file::{file_bytes, tell_no_bytes};
+use crate::file::source_bytes;
 use crate::reporting::{tell, tell_fault};
 use crate::told::Told;
 use lg_check::check_text;
-use lg_config::{NodeConfig, ReadFault};
+use lg_config::{Given, NodeConfig, ReadFault, Source};
 use lg_text::{FaultStream, RunFault, write_text};
 use std::alloc::Global;
 use std::io::Write;
 use std::rt::Files;
 
-/// Checks a configuration file, as [`check_bytes`] does its bytes.
+/// Checks a configuration, as [`check_bytes`] does the bytes of its file and options. Without a file the bytes are
+/// empty.
 ///
 /// At most 65,537 bytes of the file are read. A file that can't be read is told by [`Told::Read`], and a second line
 /// names it, and says why. Memory that is refused for its bytes is told by [`Told::Memory`]. In both cases nothing is
 /// written. No contract can say what a file holds.
-pub fn check_file<R, W, F>(rt: &R, alloc: Global, path: &str, writer: &mut W, faults: &mut F) -> u8
+pub fn check_source<R, W, F>(
+    rt: &R,
+    alloc: Global,
+    source: Source<'_>,
+    writer: &mut W,
+    faults: &mut F,
+) -> u8
 where
     R: Files,
     W: Write,
     F: FaultStream,
-    ensures { ChecksFile writer.old writer.new (W.contents writer.old) (W.contents writer.new)
-        (F.reported faults.old) (F.reported faults.new) path.now result }
+    ensures { ChecksSource writer.old writer.new (W.contents writer.old) (W.contents writer.new)
+        (F.reported faults.old) (F.reported faults.new) (source_of source) result }
 {
-    match file_bytes(rt, alloc, path) {
-        Ok(bytes) => check_bytes(alloc, &bytes, writer, faults),
-        Err(none) => tell_no_bytes(alloc, path, none, faults),
+    match source_bytes(rt, alloc, source, faults) {
+        Ok(bytes) => check_bytes(alloc, &bytes, source.given, writer, faults),
+        Err(status) => status,
     }
 }
 
-/// Checks the bytes of a configuration file: writes what they mean, as [`check_text`](lg_check::check_text) says it,
-/// with status 0.
+/// Checks the bytes of a file, and options: writes what they mean together, as [`check_text`](lg_check::check_text)
+/// says it, with status 0.
 ///
-/// Bytes that mean no configuration are told by [`Told::Config`], as [`NodeConfig::read`] answers, and a second line
-/// says in words what is wrong with them. Memory that is refused is told by [`Told::Memory`]. In both cases nothing is
-/// written. A text that isn't written whole is told by [`Told::Write`]; a beginning of it may have been.
-pub fn check_bytes<W, F>(alloc: Global, bytes: &[u8], writer: &mut W, faults: &mut F) -> u8
+/// Bytes and options that mean no configuration are told by [`Told::Config`], as [`NodeConfig::read`] answers, and a
+/// second line says in words what is wrong with them. Memory that is refused is told by [`Told::Memory`]. In both cases
+/// nothing is written. A text that isn't written whole is told by [`Told::Write`]; a beginning of it may have been.
+pub fn check_bytes<W, F>(
+    alloc: Global,
+    bytes: &[u8],
+    given: &[Given<'_>],
+    writer: &mut W,
+    faults: &mut F,
+) -> u8
 where
     W: Write,
     F: FaultStream,
     ensures { ChecksBytes writer.old writer.new (W.contents writer.old) (W.contents writer.new)
-        (F.reported faults.old) (F.reported faults.new) bytes.now result }
+        (F.reported faults.old) (F.reported faults.new) (options_of given.now) bytes.now result }
 {
-    match NodeConfig::read(alloc, bytes) {
+    match NodeConfig::read(alloc, bytes, given) {
         Ok(node) => {
             let status = check_config(alloc, &node, writer, faults);
             drop(node);
             status
         }
         Err(ReadFault::NoMemory) => tell(Told::Memory, faults),
-        Err(ReadFault::File(fault)) => tell_fault(alloc, bytes, fault, faults),
+        Err(ReadFault::File(fault)) => tell_fault(alloc, bytes, given, fault, faults),
     }
 }
 

@@ -2,14 +2,15 @@
 //!
 //! Defined in: `specs/Meaning/Reporting.antt`, `specs/Meaning/Words.antt`.
 //! Tested in: `lg_command_tests/src/launch/ends.rt`, `lg_run_refusals/src/checks.rt`.
-ghost use Rattle.std.specs.Prelude.{◌≡◌, ◌⊎◌, [], string_bytes};
-ghost use Rattle.lg_run.specs.Meaning.Reporting.{TellsNoBytes, TellsUnread};
+ghost use Rattle.std.specs.Prelude.{◌≡◌, ◌⊎◌, [], IfErr, IfOk, OnOk, string_bytes};
+ghost use Rattle.lg_config.specs.Meaning.Options.{source_of};
+ghost use Rattle.lg_run.specs.Meaning.Reporting.{AreBytesOf, LacksBytes, TellsNoBytes, TellsUnread};
 ghost use Rattle.lg_run.specs.Meaning.Words.{read_reason};
 
 use crate::reporting::{tell, tell_both};
 use crate::told::Told;
 use crate::words::read_reason;
-use lg_config::MAX_FILE;
+use lg_config::{MAX_FILE, Source};
 use lg_text::FaultStream;
 use std::alloc::Global;
 use std::io::{ErrorKind, Read};
@@ -73,5 +74,28 @@ pub fn tell_no_bytes<F: FaultStream>(alloc: Global, path: &str, none: NoBytes, f
     match none {
         NoBytes::Memory => tell(Told::Memory, faults),
         NoBytes::Read(kind) => tell_unread(alloc, path, kind, faults),
+    }
+}
+
+/// The bytes of a source's file: none without a file. What is read and allocated for a file is that of [`file_bytes`].
+///
+/// If there are none to read, that is told as [`tell_no_bytes`] does, and the error is the status.
+pub fn source_bytes<R: Files, F: FaultStream>(
+    rt: &R,
+    alloc: Global,
+    source: Source<'_>,
+    faults: &mut F,
+) -> Result<Vec<u8>, u8>
+    ensures silent { OnOk result (faults.new ≡ faults.old) }
+    ensures bytes { IfOk result (λ bytes. AreBytesOf (source_of source).file bytes.items) }
+    ensures told { IfErr result (λ status.
+        LacksBytes (source_of source).file (F.reported faults.old) (F.reported faults.new) status) }
+{
+    let Some(path) = source.file else {
+        return Ok(Vec::new(alloc));
+    };
+    match file_bytes(rt, alloc, path) {
+        Ok(bytes) => Ok(bytes),
+        Err(none) => Err(tell_no_bytes(alloc, path, none, faults)),
     }
 }

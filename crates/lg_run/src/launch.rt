@@ -1,10 +1,11 @@
-//! Runs a node from the bytes of its configuration file: checks what they mean, runs the node, writes its members, and
+//! Runs a node from the bytes of its file and options: checks what they mean, runs the node, writes its members, and
 //! tells how it ended. The functions stand in this order.
 //!
 //! Defined in: `specs/Meaning/Running.antt`, `specs/Meaning/Telling.antt`, `lg_text/specs/Meaning/Running.antt`.
 //! Tested in: `cases/node.case`, `lg_command_tests/src/launch/ends.rt`.
 ghost use Rattle.std.specs.Prelude.{◌≡◌, ◌⊎◌, ℕ, List, [], Err, OnErr, OnOk, string_bytes};
 ghost use Rattle.std.specs.Option.{option_map};
+ghost use Rattle.lg_config.specs.Meaning.Options.{source_of};
 ghost use Rattle.lg_run.specs.Meaning.Running.{node_settings, table_wished, Announces, IsSecond, RunsBytes, Writes};
 ghost use Rattle.lg_run.specs.Meaning.Reporting.{ReportsBoth};
 ghost use Rattle.lg_run.specs.Meaning.Telling.{line_of, status_told};
@@ -34,19 +35,19 @@ use std::rt::Files;
 use std::sync::Wait;
 use std::thread::Threads;
 
-/// Runs the node that the bytes of a configuration file mean, with the keys of the file that it names, if it names one,
-/// until its end is wished or the stop flag is set. Writes the members that it knows to `writer`, and gives the exit
-/// status. What is told on `faults` of a status other than 0 has one line or two.
+/// Runs the node that the bytes of a file and options mean together, with the keys of the file that it names, if it
+/// names one, until its end is wished or the stop flag is set. Writes the members that it knows to `writer`, and gives
+/// the exit status. What is told on `faults` of a status other than 0 has one line or two.
 ///
-/// Bytes that mean no configuration are told by [`Told::Config`], as [`NodeConfig::read`] answers, and a second line
-/// says in words what is wrong with them. Memory that is refused for them is told by [`Told::Memory`]. A key file that
-/// gives no keys is told by [`Told::Key`], and a second line says why: it can't be read, it is no regular file, it
-/// belongs to another user, others than its owner may use it, or it spells no keys. At most 131 bytes of it are read.
-/// No contract can say what it holds. In all these cases nothing is run or written.
+/// Bytes and options that mean no configuration are told by [`Told::Config`], as [`NodeConfig::read`] answers, and a
+/// second line says in words what is wrong with them. Memory that is refused for them is told by [`Told::Memory`]. A
+/// key file that gives no keys is told by [`Told::Key`], and a second line says why: it can't be read, it is no regular
+/// file, it belongs to another user, others than its owner may use it, or it spells no keys. At most 131 bytes of it
+/// are read. No contract can say what it holds. In all these cases nothing is run or written.
 ///
-/// A node that follows, or that no time ends, is announced by a line on `faults` before it starts: who runs where,
-/// with which file, in which version it writes its packets, and how many seeds it has. Memory that is refused for this
-/// line is told by [`Told::Memory`], and nothing is run.
+/// A node that follows, or that no time ends, is announced by a line on `faults` before it starts: who runs where, with
+/// which file if one is named, in which version it writes its packets, and how many seeds it has. Memory that is
+/// refused for this line is told by [`Told::Memory`], and nothing is run.
 ///
 /// It counts its probes and relays from a number that follows from the system's time and its dice. If there are keys,
 /// it takes and sends only sealed datagrams. It is run by [`run_node`](lg_node::run_node), and [`Told::of`] says what
@@ -71,13 +72,14 @@ where
     W: Write + Send,
     F: FaultStream + Send,
     ensures { RunsBytes writer.old writer.new (W.contents writer.old) (W.contents writer.new)
-        (F.reported faults.old) (F.reported faults.new) bytes.now wishes.now.file.now wishes.now.until
-        wishes.now.follow result }
+        (F.reported faults.old) (F.reported faults.new) bytes.now (source_of wishes.now.source)
+        wishes.now.until wishes.now.follow result }
 {
-    let node = match NodeConfig::read(alloc, bytes) {
+    let given = wishes.source.given;
+    let node = match NodeConfig::read(alloc, bytes, given) {
         Ok(node) => started_at(system_time(rt), node),
         Err(ReadFault::NoMemory) => return tell(Told::Memory, faults),
-        Err(ReadFault::File(fault)) => return tell_fault(alloc, bytes, fault, faults),
+        Err(ReadFault::File(fault)) => return tell_fault(alloc, bytes, given, fault, faults),
     };
     let keys = match keys_at(rt, alloc, &node.key_file) {
         Ok(keys) => keys,
@@ -137,11 +139,11 @@ fn announce<F: FaultStream>(
     faults: &mut F,
 ) -> Result<(), AllocError>
     ensures said { OnOk result (Announces wishes.now.until wishes.now.follow (F.reported faults.old)
-        (F.reported faults.new) (start_line wishes.now.file.now node.now)) }
+        (F.reported faults.new) (start_line (source_of wishes.now.source).file node.now)) }
     ensures refused { OnErr result (faults.new ≡ faults.old) }
 {
     if is_announced(wishes) {
-        let line = start_line(alloc, wishes.file, node)?;
+        let line = start_line(alloc, wishes.source.file, node)?;
         report(faults, line.as_str());
     }
     Ok(())

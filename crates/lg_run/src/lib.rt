@@ -1,9 +1,9 @@
-//! Runs the node of a configuration file, writes its members, and tells how it ended; or checks the file alone.
+//! Runs the node of a file and options, writes its members, and tells how it ended; or checks what they mean alone.
 //!
-//! [`file_bytes`] reads the file, and [`tell_no_bytes`] tells why it gives none. [`run_bytes`] runs the node that its
-//! bytes mean. [`check_file`] and [`check_bytes`] run nothing. Contracts of other crates cite `RunsFile`, `RunsBytes`
-//! and `RunsNode` (`specs/Meaning/Running.antt`), `ChecksFile` (`Checking.antt`), `status_told` and `line_of`
-//! (`Telling.antt`).
+//! [`source_bytes`] reads the file, if one is named, and tells why it gives no bytes. [`run_bytes`] runs the node that
+//! its bytes and options mean. [`check_source`] and [`check_bytes`] run nothing. Contracts of other crates cite
+//! `RunsSource`, `RunsBytes` and `RunsNode` (`specs/Meaning/Running.antt`), `ChecksSource` (`Checking.antt`),
+//! `status_told` and `line_of` (`Telling.antt`).
 #![tactic(auto)]
 
 mod checking;
@@ -17,8 +17,8 @@ mod told;
 mod wishes;
 mod words;
 
-pub use checking::{check_bytes, check_file};
-pub use file::{NoBytes, file_bytes, tell_no_bytes};
+pub use checking::{check_bytes, check_source};
+pub use file::{NoBytes, file_bytes, source_bytes, tell_no_bytes};
 pub use key_file::{NoKeys, keys_at};
 pub use launch::run_bytes;
 pub use told::{MAX_LINE, Told};

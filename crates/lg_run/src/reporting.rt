@@ -3,11 +3,12 @@
 //! Defined in: `specs/Meaning/Reporting.antt`.
 //! Tested in: `cases/node.case`, `cases/config_reasons.case`.
 ghost use Rattle.std.specs.Prelude.{◌≡◌};
+ghost use Rattle.lg_config.specs.Meaning.Options.{options_of};
 ghost use Rattle.lg_run.specs.Meaning.Reporting.{ReportsBoth, TellsFault, TellsLine};
 ghost use Rattle.lg_run.specs.Meaning.Telling.{line_of, status_told};
 
 use crate::told::Told;
-use lg_config::{FileFault, reason};
+use lg_config::{FileFault, Given, reason};
 use lg_text::{FaultStream, report};
 use std::alloc::Global;
 
@@ -29,17 +30,19 @@ pub(crate) fn tell_both<F: FaultStream>(told: Told, second: &str, faults: &mut F
     told.status()
 }
 
-/// Reports a faulty configuration file in two lines: the number of its fault, and in words what is wrong. If memory for
-/// the words is refused, only the first is reported.
+/// Reports a fault of a file and options in two lines: the number of its fault, and in words what is wrong. If memory
+/// for the words is refused, only the first is reported.
 pub(crate) fn tell_fault<F: FaultStream>(
     alloc: Global,
     bytes: &[u8],
+    given: &[Given<'_>],
     fault: FileFault,
     faults: &mut F,
 ) -> u8
-    ensures { TellsFault (F.reported faults.old) (F.reported faults.new) bytes.now fault result }
+    ensures { TellsFault (F.reported faults.old) (F.reported faults.new) (options_of given.now) bytes.now
+        fault result }
 {
-    match reason(alloc, bytes, fault) {
+    match reason(alloc, bytes, given, fault) {
         Ok(line) => tell_both(Told::Config(fault), line.as_str(), faults),
         Err(_) => tell_both(Told::Config(fault), "", faults),
     }

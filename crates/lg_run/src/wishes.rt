@@ -5,14 +5,17 @@
 ghost use Rattle.std.specs.Prelude.{◌≡◌};
 ghost use Rattle.lg_run.specs.Meaning.Wishes.{end_wished, is_announced};
 
+use lg_config::Source;
 use lg_timing::{MAX_MOMENT, Moment};
 use std::sync::atomic::AtomicBool;
 
-/// What a node is asked for besides its configuration, and what stops it (this project's choice).
+/// What a node is asked for: where its configuration comes from, how long it runs and what it tells. And what stops it
+/// (this project's choice).
 #[derive(Clone, Copy, Debug)]
 pub struct Wishes<'a> {
-    /// The path of its configuration file, as lines name it. The bytes of the file are handed over apart.
-    pub file: &'a str,
+    /// Where its configuration comes from: the path of its file, as lines name it, and options. The bytes of the file
+    /// are handed over apart.
+    pub source: Source<'a>,
     /// The moment at which it ends, in milliseconds from its start. If there is none, time doesn't end it.
     pub until: Option<Moment>,
     /// Whether each change of a record is written as it happens. Then the members aren't written at the end.

@@ -5,7 +5,8 @@
 //! Tested in: `lg_command_tests/src/launch/starts.rt`, `cases/node.case`.
 ghost use Rattle.std.specs.Prelude.{◌≡◌, IfOk, string_bytes};
 ghost use Rattle.lg_run.specs.Meaning.Words.{bind_words, link_reason, read_reason, read_words};
-ghost use Rattle.lg_run.specs.Meaning.Words.{seed_count, start_line};
+ghost use Rattle.std.specs.Option.{option_map};
+ghost use Rattle.lg_run.specs.Meaning.Words.{file_words, seed_count, start_line};
 
 use lg_check::{addr_text, text_of_name};
 use lg_config::NodeConfig;
@@ -24,16 +25,32 @@ fn seed_count(alloc: Global, count: usize) -> Result<String, AllocError>
     }
 }
 
+/// The file of a configuration, or that there is none, in words.
+fn file_words(alloc: Global, file: Option<&str>) -> Result<String, AllocError>
+    ensures { IfOk result (λ text. string_bytes text ≡ file_words (option_map (λ path. path.now) file.entry)) }
+{
+    match file {
+        Some(path) => format!(in alloc; "file {path}"),
+        None => String::from_str(alloc, "no file"),
+    }
+}
+
 /// The line of a node that starts: who runs where, with which file, in which version it writes its packets, and how
 /// many seeds it has. Allocates the line; the only error is that memory was refused.
-pub(crate) fn start_line(alloc: Global, file: &str, node: &NodeConfig) -> Result<String, AllocError>
-    ensures { IfOk result (λ text. string_bytes text ≡ start_line file.now node.now) }
+pub(crate) fn start_line(
+    alloc: Global,
+    file: Option<&str>,
+    node: &NodeConfig,
+) -> Result<String, AllocError>
+    ensures { IfOk result (λ text.
+        string_bytes text ≡ start_line (option_map (λ path. path.now) file.entry) node.now) }
 {
     let addr = addr_text(alloc, node.config.addr)?;
     let seeds = seed_count(alloc, node.seeds.len())?;
+    let file = file_words(alloc, file)?;
     let name = text_of_name(&node.config.name);
     let wire = node.config.wire;
-    format!(in alloc; "lg: {name} at {addr}, file {file}, wire {wire}, {seeds}\n")
+    format!(in alloc; "lg: {name} at {addr}, {file}, wire {wire}, {seeds}\n")
 }
 
 /// Why an address can't be bound.

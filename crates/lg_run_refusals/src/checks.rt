@@ -1,5 +1,6 @@
 //! Checks of files, over writers that fail and while memory is refused.
-use lg_run::{check_bytes, check_file};
+use lg_config::Source;
+use lg_run::{check_bytes, check_source};
 use lg_testing::Room;
 use std::alloc::Global;
 use std::rt::Files;
@@ -60,7 +61,7 @@ impl Outcome {
 /// Checks a text over an output whose call with this number fails.
 fn check(alloc: Global, text: &str, fails_at: usize) -> Outcome {
     let (mut writer, mut faults) = (Room::failing(fails_at), Room::failing(0));
-    let status = check_bytes(alloc, text.as_bytes(), &mut writer, &mut faults);
+    let status = check_bytes(alloc, text.as_bytes(), &[], &mut writer, &mut faults);
     Outcome {
         status,
         writer,
@@ -96,10 +97,11 @@ fn refused_memory(rt: HostRuntime) {
     }
 }
 
-/// Checks a file.
-fn check_path<R: Files>(rt: &R, alloc: Global, path: &str) -> Outcome {
+/// Checks a file, if one is named.
+fn check_path<R: Files>(rt: &R, alloc: Global, file: Option<&str>) -> Outcome {
     let (mut writer, mut faults) = (Room::failing(0), Room::failing(0));
-    let status = check_file(rt, alloc, path, &mut writer, &mut faults);
+    let source = Source { file, given: &[] };
+    let status = check_source(rt, alloc, source, &mut writer, &mut faults);
     Outcome {
         status,
         writer,
@@ -107,22 +109,27 @@ fn check_path<R: Files>(rt: &R, alloc: Global, path: &str) -> Outcome {
     }
 }
 
-/// Files that can't be read, and one that is empty.
-const FILES: [(&str, u8, &str); 3] = [
+/// Files that can't be read, one that is empty, and no file.
+const FILES: [(Option<&str>, u8, &str); 4] = [
     (
-        "/nowhere/b.toml",
+        Some("/nowhere/b.toml"),
         1,
         "lg: read\nthe file /nowhere/b.toml can't be read: there is no such file\n",
     ),
     (
-        "/",
+        Some("/"),
         1,
         "lg: read\nthe file / can't be read: it is a folder\n",
     ),
-    ("/dev/null", 3, "lg: config 13\nthe key name is missing\n"),
+    (
+        Some("/dev/null"),
+        3,
+        "lg: config 13\nthe key name is missing\n",
+    ),
+    (None, 3, "lg: config 13\nthe key name is missing\n"),
 ];
 
-/// Each such file is told in two lines. If memory is refused, that is told, or the second line is missing. The next
+/// Each of them is told in two lines. If memory is refused, that is told, or the second line is missing. The next
 /// check goes well.
 #[test]
 fn files_refused_memory(rt: HostRuntime) {

@@ -7,8 +7,9 @@ use Rattle.lg_text.specs.Meaning.Running.{ReadsWhole}
 use Rattle.lg_commands.specs.Meaning.Choosing.{order_text}
 use Rattle.lg_commands.specs.Meaning.Running.{FailsBy, RunsAnswer, RunsInit, RunsOrder, RunsSim, RunsTimeouts}
 use Rattle.lg_commands.specs.declared.timeouts.Numbers.{Numbers}
-use Rattle.lg_run.specs.Meaning.Checking.{ChecksFile}
-use Rattle.lg_run.specs.Meaning.Running.{RunsFile}
+use Rattle.lg_config.specs.Meaning.Options.{SourceValue}
+use Rattle.lg_run.specs.Meaning.Checking.{ChecksSource}
+use Rattle.lg_run.specs.Meaning.Running.{RunsSource}
 use Rattle.lg_client.specs.declared.resource.Resource.TheVariants.{Health, Members as KnownMembers}
 use Rattle.lg_client.specs.Meaning.Leaving.{LeavesNode}
 use Rattle.lg_client.specs.Meaning.Telling.{TellsAnswer}
@@ -71,19 +72,20 @@ pub record RunsScript {R W : Type 0} (before after : Streams R W) (status : ℕ)
   pub read : status ≡ 1 → (after.writer ≡ before.writer) ⊎ ReadsWhole before.left after.left
   pub run : status ≢ 2
 
--- `node` is run from its file: for some milliseconds, if it was said for how many, and following what changes, if that
--- was said. Nothing is read from the reader. No contract sees the input whose end may end the node.
-pub record RunsNodeFile
-    {R W : Type 0} (before after : Streams R W) (file : List ℕ) (for_ms : Option ℕ) (follow : Bool) (status : ℕ)
+-- `node` is run from its file, if one is named, and options: for some milliseconds, if it was said for how many, and
+-- following what changes, if that was said. Nothing is read from the reader. No contract sees the input whose end may
+-- end the node.
+pub record RunsNodeSource
+    {R W : Type 0} (before after : Streams R W) (source : SourceValue) (for_ms : Option ℕ) (follow : Bool) (status : ℕ)
     : Type 0 where
-  pub launched : RunsFile before.writer after.writer before.held after.held before.reported after.reported
-      file for_ms follow status
+  pub launched : RunsSource before.writer after.writer before.held after.held before.reported after.reported
+      source for_ms follow status
   pub unread : after.reader ≡ before.reader
 
--- `check` is run for its file. Nothing is read from the reader.
-pub record RunsCheck {R W : Type 0} (before after : Streams R W) (file : List ℕ) (status : ℕ) : Type 0 where
+-- `check` is run for its file, if one is named, and options. Nothing is read from the reader.
+pub record RunsCheck {R W : Type 0} (before after : Streams R W) (source : SourceValue) (status : ℕ) : Type 0 where
   pub checked :
-      ChecksFile before.writer after.writer before.held after.held before.reported after.reported file status
+      ChecksSource before.writer after.writer before.held after.held before.reported after.reported source status
   pub unread : after.reader ≡ before.reader
 
 -- The node at an address is asked what a command asks for, and its answer is told, or each of its answers.
@@ -134,9 +136,9 @@ RunsRequest before after (answer text) status = RunsNamed before after text stat
 RunsRequest before after (order names words) status = RunsLists before after names words status
 RunsRequest before after (timeouts numbers) status = RunsNumbers before after numbers status
 RunsRequest before after sim status = RunsScript before after status
-RunsRequest before after (node file for_ms follow until_input_ends) status =
-    RunsNodeFile before after file for_ms follow status
-RunsRequest before after (check file) status = RunsCheck before after file status
+RunsRequest before after (node source for_ms follow until_input_ends) status =
+    RunsNodeSource before after source for_ms follow status
+RunsRequest before after (check source) status = RunsCheck before after source status
 RunsRequest before after (ask question at json) status = RunsAsking before after question at json status
 RunsRequest before after init status = RunsFirstFile before after status
 RunsRequest before after (leave at name) status = RunsLeaving before after at name status

@@ -18,6 +18,8 @@ use Rattle.lg_rules.specs.Meaning.Bounds.{most_members}
 use Rattle.lg_timing.specs.Meaning.Keys.{is_within, row_of}
 use Rattle.lg_timing.specs.declared.keys.Key.{Key}
 use Rattle.lg_timing.specs.declared.keys.Key.TheVariants.{Alpha, Beta, Confirmations, IntervalMs}
+use Rattle.lg_config.specs.Meaning.Options.{SourceValue}
+use Rattle.lg_command_line.specs.Meaning.KeyOptions.{source_in, with_key_options}
 use Rattle.lg_command_line.specs.Meaning.Ranges.{default_at, most_run_ms}
 use Rattle.lg_command_line.specs.declared.asked.Question.{Question}
 use Rattle.lg_command_line.specs.declared.asked.Question.TheVariants.{Members, Status, Watch}
@@ -84,22 +86,27 @@ sim_app = new_app (codes "sim")
 abbrev pub for_ms_rule : Rule
 for_ms_rule = number_rule (codes "for-ms") 1 most_run_ms
 
--- only the file has to be given
+-- an option `--ID TEXT`, which needn't be given
+abbrev pub optional_text_rule : Text → Rule
+optional_text_rule id = record (new_rule id) { long = Some id; value_names = 1; action = Some Set }
+
+-- the file of a configuration
+abbrev pub config_rule : Rule
+config_rule = optional_text_rule (codes "config")
+
+-- no option has to be given
 abbrev pub node_app : App
 node_app =
-    let numbered = with_rule (with_rule (new_app (codes "node")) (text_rule (codes "config"))) for_ms_rule in
-    with_rule (with_rule numbered (flag_rule (codes "follow"))) (flag_rule (codes "until-input-ends"))
+    let numbered = with_rule (with_rule (new_app (codes "node")) config_rule) for_ms_rule in
+    let followed = with_rule numbered (flag_rule (codes "follow")) in
+    with_key_options (with_rule followed (flag_rule (codes "until-input-ends")))
 
 abbrev pub check_app : App
-check_app = with_rule (new_app (codes "check")) (text_rule (codes "config"))
+check_app = with_key_options (with_rule (new_app (codes "check")) config_rule)
 
 -- this command has no options
 abbrev pub init_app : App
 init_app = new_app (codes "init")
-
--- an option `--ID TEXT`, which needn't be given
-abbrev pub optional_text_rule : Text → Rule
-optional_text_rule id = record (new_rule id) { long = Some id; value_names = 1; action = Some Set }
 
 -- an option `--ID TEXT` that has a default
 abbrev pub default_text_rule : Text → Text → Rule
@@ -163,17 +170,17 @@ numbers_in rows = record {
   interval_ms = number_in rows (codes "interval-ms");
 }
 
--- What a command line asks for: a command with its options. For `node` these are its file, for how many milliseconds
--- it runs if it was said, whether it follows what changes, and whether it ends with its input. For a question to a
--- running node they are the text of its address, and whether the answers are written as they come. For `leave` they are
--- the text of the node's address, and that of its name, which is empty if none was given.
+-- What a command line asks for: a command with its options. For `node` these are where its configuration comes from,
+-- for how many milliseconds it runs if it was said, whether it follows what changes, and whether it ends with its
+-- input. For a question to a running node they are the text of its address, and whether the answers are written as they
+-- come. For `leave` they are the text of the node's address, and that of its name, which is empty if none was given.
 pub data Request : Type 0 where
   answer : Text → Request
   order : Text → Text → Request
   timeouts : Numbers → Request
   sim : Request
-  node : Text → Option ℕ → Bool → Bool → Request
-  check : Text → Request
+  node : SourceValue → Option ℕ → Bool → Bool → Request
+  check : SourceValue → Request
   ask : Question → Text → Bool → Request
   init : Request
   leave : Text → Text → Request
@@ -188,7 +195,7 @@ rows_met met = option_map_or (λ p. p.1) met []
 
 -- `node` with its options
 abbrev pub node_of_rows : List Row → Request
-node_of_rows rows = node (text_in rows (codes "config")) (number_given rows (codes "for-ms"))
+node_of_rows rows = node (source_in rows) (number_given rows (codes "for-ms"))
     (flag_in rows (codes "follow")) (flag_in rows (codes "until-input-ends"))
 
 -- a question to a running node, with the options of its command
@@ -201,7 +208,7 @@ request_of_rows met =
     let rows = rows_met met in
     if is_met (codes "sim") met then sim
     else if is_met (codes "node") met then node_of_rows rows
-    else if is_met (codes "check") met then check (text_in rows (codes "config"))
+    else if is_met (codes "check") met then check (source_in rows)
     else if is_met (codes "timeouts") met then timeouts (numbers_in rows)
     else if is_met (codes "order") met then order (text_in rows (codes "names")) (text_in rows (codes "words"))
     else if is_met (codes "members") met then ask_of_rows Members rows
@@ -221,8 +228,8 @@ has_good_numbers (answer text) = true
 has_good_numbers (order names words) = true
 has_good_numbers (timeouts numbers) = are_good numbers
 has_good_numbers sim = true
-has_good_numbers (node file for_ms follow until_input_ends) = option_map_or (is_within 1 most_run_ms) for_ms true
-has_good_numbers (check file) = true
+has_good_numbers (node source for_ms follow until_input_ends) = option_map_or (is_within 1 most_run_ms) for_ms true
+has_good_numbers (check source) = true
 has_good_numbers (ask question at json) = true
 has_good_numbers init = true
 has_good_numbers (leave at name) = true
@@ -241,8 +248,8 @@ IfAnswer (answer text) P = P text
 IfAnswer (order names words) P = Unit {0}
 IfAnswer (timeouts numbers) P = Unit {0}
 IfAnswer sim P = Unit {0}
-IfAnswer (node file for_ms follow until_input_ends) P = Unit {0}
-IfAnswer (check file) P = Unit {0}
+IfAnswer (node source for_ms follow until_input_ends) P = Unit {0}
+IfAnswer (check source) P = Unit {0}
 IfAnswer (ask question at json) P = Unit {0}
 IfAnswer init P = Unit {0}
 IfAnswer (leave at name) P = Unit {0}
@@ -253,8 +260,8 @@ IfOrder (answer text) P = Unit {0}
 IfOrder (order names words) P = P names words
 IfOrder (timeouts numbers) P = Unit {0}
 IfOrder sim P = Unit {0}
-IfOrder (node file for_ms follow until_input_ends) P = Unit {0}
-IfOrder (check file) P = Unit {0}
+IfOrder (node source for_ms follow until_input_ends) P = Unit {0}
+IfOrder (check source) P = Unit {0}
 IfOrder (ask question at json) P = Unit {0}
 IfOrder init P = Unit {0}
 IfOrder (leave at name) P = Unit {0}
@@ -265,8 +272,8 @@ IfTimeouts (answer text) P = Unit {0}
 IfTimeouts (order names words) P = Unit {0}
 IfTimeouts (timeouts numbers) P = P numbers
 IfTimeouts sim P = Unit {0}
-IfTimeouts (node file for_ms follow until_input_ends) P = Unit {0}
-IfTimeouts (check file) P = Unit {0}
+IfTimeouts (node source for_ms follow until_input_ends) P = Unit {0}
+IfTimeouts (check source) P = Unit {0}
 IfTimeouts (ask question at json) P = Unit {0}
 IfTimeouts init P = Unit {0}
 IfTimeouts (leave at name) P = Unit {0}
@@ -277,32 +284,33 @@ IfSim (answer text) P = Unit {0}
 IfSim (order names words) P = Unit {0}
 IfSim (timeouts numbers) P = Unit {0}
 IfSim sim P = P
-IfSim (node file for_ms follow until_input_ends) P = Unit {0}
-IfSim (check file) P = Unit {0}
+IfSim (node source for_ms follow until_input_ends) P = Unit {0}
+IfSim (check source) P = Unit {0}
 IfSim (ask question at json) P = Unit {0}
 IfSim init P = Unit {0}
 IfSim (leave at name) P = Unit {0}
 
--- a fact about the options of `node`: its file, its time, whether it follows, and whether it ends with its input
-abbrev pub IfNode : Request → (Text → Option ℕ → Bool → Bool → Type 0) → Type 0
+-- a fact about the options of `node`: where its configuration comes from, its time, whether it follows, and whether it
+-- ends with its input
+abbrev pub IfNode : Request → (SourceValue → Option ℕ → Bool → Bool → Type 0) → Type 0
 IfNode (answer text) P = Unit {0}
 IfNode (order names words) P = Unit {0}
 IfNode (timeouts numbers) P = Unit {0}
 IfNode sim P = Unit {0}
-IfNode (node file for_ms follow until_input_ends) P = P file for_ms follow until_input_ends
-IfNode (check file) P = Unit {0}
+IfNode (node source for_ms follow until_input_ends) P = P source for_ms follow until_input_ends
+IfNode (check source) P = Unit {0}
 IfNode (ask question at json) P = Unit {0}
 IfNode init P = Unit {0}
 IfNode (leave at name) P = Unit {0}
 
--- a fact about the file of `check`
-abbrev pub IfCheck : Request → (Text → Type 0) → Type 0
+-- a fact about where the configuration of `check` comes from
+abbrev pub IfCheck : Request → (SourceValue → Type 0) → Type 0
 IfCheck (answer text) P = Unit {0}
 IfCheck (order names words) P = Unit {0}
 IfCheck (timeouts numbers) P = Unit {0}
 IfCheck sim P = Unit {0}
-IfCheck (node file for_ms follow until_input_ends) P = Unit {0}
-IfCheck (check file) P = P file
+IfCheck (node source for_ms follow until_input_ends) P = Unit {0}
+IfCheck (check source) P = P source
 IfCheck (ask question at json) P = Unit {0}
 IfCheck init P = Unit {0}
 IfCheck (leave at name) P = Unit {0}
@@ -313,8 +321,8 @@ IfAsk (answer text) P = Unit {0}
 IfAsk (order names words) P = Unit {0}
 IfAsk (timeouts numbers) P = Unit {0}
 IfAsk sim P = Unit {0}
-IfAsk (node file for_ms follow until_input_ends) P = Unit {0}
-IfAsk (check file) P = Unit {0}
+IfAsk (node source for_ms follow until_input_ends) P = Unit {0}
+IfAsk (check source) P = Unit {0}
 IfAsk (ask question at json) P = P question at json
 IfAsk init P = Unit {0}
 IfAsk (leave at name) P = Unit {0}
@@ -325,8 +333,8 @@ IfInit (answer text) P = Unit {0}
 IfInit (order names words) P = Unit {0}
 IfInit (timeouts numbers) P = Unit {0}
 IfInit sim P = Unit {0}
-IfInit (node file for_ms follow until_input_ends) P = Unit {0}
-IfInit (check file) P = Unit {0}
+IfInit (node source for_ms follow until_input_ends) P = Unit {0}
+IfInit (check source) P = Unit {0}
 IfInit (ask question at json) P = Unit {0}
 IfInit init P = P
 IfInit (leave at name) P = Unit {0}
@@ -337,8 +345,8 @@ IfLeave (answer text) P = Unit {0}
 IfLeave (order names words) P = Unit {0}
 IfLeave (timeouts numbers) P = Unit {0}
 IfLeave sim P = Unit {0}
-IfLeave (node file for_ms follow until_input_ends) P = Unit {0}
-IfLeave (check file) P = Unit {0}
+IfLeave (node source for_ms follow until_input_ends) P = Unit {0}
+IfLeave (check source) P = Unit {0}
 IfLeave (ask question at json) P = Unit {0}
 IfLeave init P = Unit {0}
 IfLeave (leave at name) P = P at name

@@ -5,9 +5,15 @@ use Rattle.clap.proofs.OnLiterals.{clap_on_literals}
 use Rattle.clap.specs.declared.error.kind.ErrorKind.TheVariants as kind
 use Rattle.lg_timing.specs.declared.keys.Key.TheVariants.{Alpha, Beta, Confirmations, IntervalMs}
 use Rattle.lg_timing.specs.Meaning.Keys.{row_of}
+use Rattle.clap.specs.Walk.{Text}
+use Rattle.lg_config.specs.Meaning.Options.{SourceValue}
 use Rattle.lg_command_line.specs.Meaning.Commands.{answer, ask, check, init, leave, node, order, timeouts}
 use Rattle.lg_command_line.specs.Meaning.Commands.{asked, line_faults}
 use Rattle.lg_command_line.specs.declared.asked.Question.TheVariants.{Members, Status, Watch}
+
+-- a configuration of a file alone
+abbrev at-file : Text → SourceValue
+at-file file = record { file = Some file; options = [] }
 
 taken : line_faults (codes "lg" ∷ codes "answer" ∷ codes "--name" ∷ codes "b" ∷ []) ≡ []
 unfolding line_faults asked clap_on_literals
@@ -85,7 +91,7 @@ no-gossip-option = refl
 
 run-of-a-day :
     asked (codes "lg" ∷ codes "node" ∷ codes "--for-ms=86400000" ∷ codes "--config" ∷ codes "a.toml" ∷ [])
-    ≡ node (codes "a.toml") (Some 86400000) false false
+    ≡ node (at-file (codes "a.toml")) (Some 86400000) false false
 unfolding asked clap_on_literals
 run-of-a-day = refl
 
@@ -110,18 +116,18 @@ unfolding line_faults asked clap_on_literals
 no-end-given = refl
 
 run-without-end :
-    asked (codes "lg" ∷ codes "node" ∷ codes "--config=a.toml" ∷ []) ≡ node (codes "a.toml") None false false
+    asked (codes "lg" ∷ codes "node" ∷ codes "--config=a.toml" ∷ []) ≡ node (at-file (codes "a.toml")) None false false
 unfolding asked clap_on_literals
 run-without-end = refl
 
 followed : asked (codes "lg" ∷ codes "node" ∷ codes "--follow" ∷ codes "--config=a.toml" ∷ codes "--for-ms=5" ∷ [])
-    ≡ node (codes "a.toml") (Some 5) true false
+    ≡ node (at-file (codes "a.toml")) (Some 5) true false
 unfolding asked clap_on_literals
 followed = refl
 
 run-with-its-input :
     asked (codes "lg" ∷ codes "node" ∷ codes "--config=a.toml" ∷ codes "--until-input-ends" ∷ [])
-    ≡ node (codes "a.toml") None false true
+    ≡ node (at-file (codes "a.toml")) None false true
 unfolding asked clap_on_literals
 run-with-its-input = refl
 
@@ -136,20 +142,22 @@ flag-with-a-value : line_faults (codes "lg" ∷ codes "node" ∷ codes "--config
 unfolding line_faults asked clap_on_literals
 flag-with-a-value = refl
 
-checked-file : asked (codes "lg" ∷ codes "check" ∷ codes "--config" ∷ codes "a.toml" ∷ []) ≡ check (codes "a.toml")
+checked-file :
+    asked (codes "lg" ∷ codes "check" ∷ codes "--config" ∷ codes "a.toml" ∷ []) ≡ check (at-file (codes "a.toml"))
 unfolding asked clap_on_literals
 checked-file = refl
 
-no-file-to-check : line_faults (codes "lg" ∷ codes "check" ∷ []) ≡ kind.MissingRequiredArgument ∷ []
-unfolding line_faults asked clap_on_literals
-no-file-to-check = refl
+-- no option has to be given: a missing name is a fault of the configuration
+nothing-to-check :
+    asked (codes "lg" ∷ codes "check" ∷ []) ≡ check record { file = None; options = [] }
+unfolding asked clap_on_literals
+nothing-to-check = refl
 
 version : line_faults (codes "lg" ∷ codes "--version" ∷ []) ≡ kind.DisplayVersion ∷ []
 unfolding line_faults asked clap_on_literals
 version = refl
 
-no-file :
-    line_faults (codes "lg" ∷ codes "node" ∷ codes "--for-ms=1" ∷ []) ≡ kind.MissingRequiredArgument ∷ []
+no-file : line_faults (codes "lg" ∷ codes "node" ∷ codes "--for-ms=1" ∷ []) ≡ []
 unfolding line_faults asked clap_on_literals
 no-file = refl
 

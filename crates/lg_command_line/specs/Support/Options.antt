@@ -6,8 +6,10 @@ use Rattle.clap.specs.Walk.{Rule, Text}
 use Rattle.clap.specs.declared.builder.action.ArgAction.TheVariants.{Set}
 use Rattle.lg_timing.specs.Meaning.Keys.{row_of}
 use Rattle.lg_command_line.specs.Meaning.Commands.{default_rule, default_text_rule, flag_rule, number_rule}
+use Rattle.lg_command_line.specs.Meaning.KeyOptions.{key_action}
 use Rattle.lg_command_line.specs.Meaning.Commands.{optional_text_rule, required_rule, text_rule}
 use Rattle.lg_command_line.specs.declared.command.CommandRow.{CommandRow}
+use Rattle.lg_command_line.specs.declared.key_options.KeyRow.{KeyRow}
 use Rattle.lg_command_line.specs.declared.options.OptionRow.{OptionRow}
 use Rattle.lg_command_line.specs.declared.options.Takes.{Takes}
 use Rattle.lg_command_line.specs.declared.options.Takes.TheVariants.{DefaultText, Nothing, Number, OfKey}
@@ -39,9 +41,21 @@ rule_of_row row = rule_taking row.id.now row.takes
 abbrev pub with_option : App → OptionRow → App
 with_option app row = with_rule app (rule_of_row row)
 
+-- the option `--NAME` of a key
+abbrev pub named_key_rule : KeyRow → Rule
+named_key_rule row = record (new_rule row.key.now) { long = Some row.name.now }
+
+-- the option of a key's row
+abbrev pub rule_of_key : KeyRow → Rule
+rule_of_key row = record (named_key_rule row) { value_names = 1; action = Some (key_action row.key.now) }
+
+-- a command with the option of one key more
+abbrev pub with_key_rule : App → KeyRow → App
+with_key_rule app row = with_rule app (rule_of_key row)
+
 -- the command of a row
 abbrev pub app_of_row : CommandRow → App
-app_of_row row = fold with_option (new_app row.name.now) row.options.now
+app_of_row row = fold with_key_rule (fold with_option (new_app row.name.now) row.options.now) row.keys.now
 
 -- a program with the command of one row more
 abbrev pub with_row : App → CommandRow → App

@@ -1,5 +1,6 @@
 //! Runs of nodes and of files, over writers that fail.
 use crate::ports::{free_port, with_port};
+use lg_config::Source as Origin;
 use lg_run::{Wishes, file_bytes, run_bytes, tell_no_bytes};
 use lg_testing::{Room, at};
 use std::alloc::{AllocError, Global};
@@ -54,7 +55,10 @@ fn wishes_of(source: Source, stop: &AtomicBool) -> Wishes<'_> {
         Path(path) => path,
     };
     Wishes {
-        file,
+        source: Origin {
+            file: Some(file),
+            given: &[],
+        },
         until: Some(at(1)),
         follow: false,
         stop,

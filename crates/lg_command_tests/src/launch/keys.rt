@@ -122,7 +122,7 @@ fn comes<R: Files>(
 /// The mode, the owner and the kind are those of the opened file. One of another kind isn't opened.
 #[test]
 fn of_the_opened_file(rt: HostRuntime) {
-    let read = NodeConfig::read(rt.alloc(), b"name = \"b\"\nkey_file = \"k\"");
+    let read = NodeConfig::read(rt.alloc(), b"name = \"b\"\nkey_file = \"k\"", &[]);
     assert!(rt; read.is_ok(), "no configuration");
     let Ok(node) = read else {
         return;

@@ -1,5 +1,6 @@
 //! What is announced of a node before it starts.
 use crate::ports::{free_port, with_port};
+use lg_config::{Given, Source};
 use lg_run::{Wishes, run_bytes};
 use lg_testing::{Room, at};
 use std::alloc::Global;
@@ -11,30 +12,68 @@ use std::sync::atomic::AtomicBool;
 use std::thread::Threads;
 use std::{io, rt};
 
-/// Further lines of a file; the moment at which its node ends, or None for one that is told to stop before it starts;
-/// whether it follows; and what is told. Each `#` stands for the node's port.
-type Row = (&'static str, Option<u64>, bool, &'static str);
+/// The file that is named and what options give; further lines of the bytes; the moment at which the node ends, or None
+/// for one that is told to stop before it starts; whether it follows; and what is told. Each `#` stands for the node's
+/// port.
+type Row = (
+    Source<'static>,
+    &'static str,
+    Option<u64>,
+    bool,
+    &'static str,
+);
+
+/// A file without options.
+const FILE: Source<'static> = Source {
+    file: Some("b.toml"),
+    given: &[],
+};
+
+/// Options without a file.
+const OPTIONS: Source<'static> = Source {
+    file: None,
+    given: &[
+        Given {
+            key: "wire",
+            text: "3",
+        },
+        Given {
+            key: "seeds",
+            text: "127.0.0.1:17199",
+        },
+    ],
+};
 
 /// A node that a time ends is announced only if it follows.
-const ROWS: [Row; 4] = [
-    ("", Some(1), false, ""),
+const ROWS: [Row; 5] = [
+    (FILE, "", Some(1), false, ""),
     (
+        FILE,
         "",
         Some(1),
         true,
         "lg: b at 127.0.0.1:#, file b.toml, wire 1, 0 seeds\n",
     ),
     (
+        FILE,
         "wire = 2\nseeds = [\"a@127.0.0.1:17199\"]",
         None,
         false,
         "lg: b at 127.0.0.1:#, file b.toml, wire 2, 1 seed\n",
     ),
     (
+        FILE,
         "seeds = [\"a@127.0.0.1:17199\", \"c@1.2.3.4:5\"]",
         None,
         true,
         "lg: b at 127.0.0.1:#, file b.toml, wire 1, 2 seeds\n",
+    ),
+    (
+        OPTIONS,
+        "wire = 2",
+        None,
+        false,
+        "lg: b at 127.0.0.1:#, no file, wire 3, 1 seed\n",
     ),
 ];
 
@@ -43,12 +82,12 @@ fn runs<R>(rt: &R, alloc: Global, row: Row) -> io::Result<bool>
 where
     R: Wait + Threads + Net + rt::Clock + Files + RandomSource + Sync,
 {
-    let (line, until, follow, told) = row;
+    let (source, line, until, follow, told) = row;
     let port = free_port(rt)?;
     let text = format!(in alloc; "name = \"b\"\nport = {port}\n{line}\n")?;
     let stop = AtomicBool::new(until.is_none());
     let wishes = Wishes {
-        file: "b.toml",
+        source,
         until: until.map(at),
         follow,
         stop: &stop,

@@ -1,10 +1,12 @@
--- What reading a configuration file answers. If there are several faults, the first of these counts: of the document,
--- of its keys and their types, of the form of a value, of the configuration's own check, of the node's own numbers, of
--- the status server, of the path of the key file. Of the check's faults those with greater numbers than the node's own
--- come behind all of these, and that of the group comes last of them. Then come that of whether a request may end the
--- node, that of where its socket is bound, and that its packets can't tell its own address.
+-- What reading a configuration answers: a file, and options that count in place of what it says. If there are several
+-- faults, the first of these counts: of the document, of its keys and their types, of the form of a value, of the
+-- configuration's own check, of the node's own numbers, of the status server, of the path of the key file. Of the
+-- check's faults those with greater numbers than the node's own come behind all of these, and that of the group comes
+-- last of them. Then come that of whether a request may end the node, that of where its socket is bound, and that its
+-- packets can't tell its own address.
 use Rattle.std.specs.Prelude.{ℕ, Bool, ◌&&◌, nat_le, nat_lt, List, length, Option, Some, None, Result, Ok, Err}
-use Rattle.std.specs.Prelude.{if◌then◌else◌, ◌≡◌, true}
+use Rattle.std.specs.Prelude.{if◌then◌else◌, ◌≡◌, ◌≢◌, ◌⊎◌, [], true}
+use Rattle.std.specs.Option.{option_map}
 use Rattle.std.specs.Str.{is_utf8}
 use Rattle.toml.specs.Data.{Members}
 use Rattle.toml.specs.Errors.{IsBlank}
@@ -29,6 +31,7 @@ use Rattle.lg_config.specs.Meaning.KeyFiles.{key_file_in, with_key_file}
 use Rattle.lg_config.specs.Meaning.Keys.{are_right_keys}
 use Rattle.lg_config.specs.Meaning.Leaves.{leave_in, with_leave}
 use Rattle.lg_config.specs.Meaning.NodeKeys.{node_row_of, own_broken}
+use Rattle.lg_config.specs.Meaning.Options.{with_options, Options}
 use Rattle.lg_config.specs.Meaning.Settings.{item_count, seeds_at, settings_of}
 use Rattle.lg_config.specs.Meaning.Status.{open_in, status_addr_in, with_status}
 
@@ -135,16 +138,25 @@ abbrev pub unless_syntax : Option Members → Result NodeConfig FileFault
 unless_syntax None = Err fault.Syntax
 unless_syntax (Some members) = meaning_of members
 
--- the configuration that the bytes of a file mean, or the first fault
-unfoldable pub answer_of : List ℕ → Result NodeConfig FileFault
-answer_of bytes = unless_syntax (document_of bytes)
+-- the members of the document that the bytes of a file and options spell together, if the bytes spell one
+abbrev pub document_with : Options → List ℕ → Option Members
+document_with options bytes = option_map (with_options options) (document_of bytes)
 
--- memory is allocated only for bytes that are read as TOML, and only if they aren't all blanks and comments
-abbrev pub TakesMemory : List ℕ → Type 0
-TakesMemory bytes = (is_text_file bytes ≡ true) × ¬ (IsBlank bytes)
+-- the configuration that the bytes of a file and options mean together, or the first fault
+unfoldable pub answer_with : Options → List ℕ → Result NodeConfig FileFault
+answer_with options bytes = unless_syntax (document_with options bytes)
+
+-- the same of a file without options
+unfoldable pub answer_of : List ℕ → Result NodeConfig FileFault
+answer_of bytes = answer_with [] bytes
+
+-- memory is allocated only for bytes that are read as TOML, and only if they aren't all blanks and comments, or there
+-- are options
+abbrev pub TakesMemory : Options → List ℕ → Type 0
+TakesMemory options bytes = (is_text_file bytes ≡ true) × (¬ (IsBlank bytes) ⊎ (options ≢ []))
 
 -- what reading gives: that answer, or that memory was refused
-abbrev pub IsAnswer : List ℕ → Result NodeConfig ReadFault → Type 0
-IsAnswer bytes (Ok node) = answer_of bytes ≡ Ok node
-IsAnswer bytes (Err NoMemory) = TakesMemory bytes
-IsAnswer bytes (Err (File found)) = answer_of bytes ≡ Err found
+abbrev pub IsAnswer : Options → List ℕ → Result NodeConfig ReadFault → Type 0
+IsAnswer options bytes (Ok node) = answer_with options bytes ≡ Ok node
+IsAnswer options bytes (Err NoMemory) = TakesMemory options bytes
+IsAnswer options bytes (Err (File found)) = answer_with options bytes ≡ Err found

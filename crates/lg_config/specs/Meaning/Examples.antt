@@ -13,7 +13,7 @@ use Rattle.lg_timing.specs.Meaning.Config.{check_of, defaults}
 use Rattle.lg_config.specs.declared.fault.FileFault.{FileFault}
 use Rattle.lg_config.specs.declared.fault.FileFault.TheVariants as fault
 use Rattle.lg_config.specs.declared.node.NodeConfig.{NodeConfig}
-use Rattle.lg_config.specs.Meaning.Answer.{answer_of}
+use Rattle.lg_config.specs.Meaning.Answer.{answer_of, answer_with}
 use Rattle.lg_config.specs.Meaning.Dice.{own_dice}
 use Rattle.lg_config.specs.Meaning.KeyFiles.{path_of}
 use Rattle.lg_config.specs.Meaning.Keys.{file_key_named, kind_of_key}
@@ -31,7 +31,8 @@ unfolding kind_of_key file_key_named
 on_keys = tt
 
 unfoldable pub on_files : ⊤
-unfolding toml_on_literals on_texts answer_of on_keys settings_of name_in addr_in dice_in with_numbers check_of
+unfolding toml_on_literals on_texts answer_of answer_with on_keys settings_of name_in addr_in dice_in with_numbers
+    check_of
 on_files = tt
 
 -- a file of the member b that also has these lines

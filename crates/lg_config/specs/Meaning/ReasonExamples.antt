@@ -11,7 +11,7 @@ use Rattle.lg_timing.specs.Meaning.Config.{check_of}
 use Rattle.lg_config.specs.declared.fault.FileFault.{FileFault}
 use Rattle.lg_config.specs.declared.fault.FileFault.TheVariants as fault
 use Rattle.lg_config.specs.declared.node.NodeConfig.{NodeConfig}
-use Rattle.lg_config.specs.Meaning.Answer.{answer_of, document_of}
+use Rattle.lg_config.specs.Meaning.Answer.{answer_of, answer_with, document_of}
 use Rattle.lg_config.specs.Meaning.FormReasons.{seeds_reason, value_reason}
 use Rattle.lg_config.specs.Meaning.GroupReasons.{group_reason}
 use Rattle.lg_config.specs.Meaning.Keys.{any_keys, file_key_named, file_keys, kind_of_key, number_keys, text_keys}
@@ -35,7 +35,7 @@ unfolding kind_of_key file_key_named
 on_keys = tt
 
 unfoldable on_answers : ⊤
-unfolding on_texts answer_of on_keys settings_of name_in addr_in dice_in with_numbers check_of
+unfolding on_texts answer_of answer_with on_keys settings_of name_in addr_in dice_in with_numbers check_of
 on_answers = tt
 
 unfoldable on_nearest : ⊤
@@ -267,7 +267,7 @@ quoted-bytes = refl
 quoted-front : quoted (replicate 65 120) ≡ codes "\"" ++ (replicate 64 120 ++ codes "..\"")
 quoted-front = refl
 
-no-text : IsReason fault.Syntax (255 ∷ []) (codes "the file isn't UTF-8\n")
+no-text : IsReason fault.Syntax [] (255 ∷ []) (codes "the file isn't UTF-8\n")
 unfolding on_reasons
 no-text = refl
 

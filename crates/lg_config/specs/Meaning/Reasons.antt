@@ -1,4 +1,4 @@
--- Why a file means no configuration, in words: a line for each fault (this project's choice).
+-- Why a file and options mean no configuration, in words: a line for each fault (this project's choice).
 use Rattle.std.specs.Prelude.{◌≡◌, ℕ, ◌+◌, ◌≤◌, ◌==◌, Bool, true, false, nat_le, List, ◌++◌, codes, decimal}
 use Rattle.std.specs.Prelude.{length, take, Option, Some, None, find}
 use Rattle.std.specs.List.{count_by}
@@ -13,7 +13,7 @@ use Rattle.lg_timing.specs.Meaning.Keys.{config_fault_number, keys, row_of}
 use Rattle.lg_config.specs.declared.fault.FileFault.{FileFault}
 use Rattle.lg_config.specs.declared.fault.FileFault.TheVariants as fault
 use Rattle.lg_config.specs.declared.node_keys.NodeKey.TheVariants.{PullMs, StallMs}
-use Rattle.lg_config.specs.Meaning.Answer.{document_of}
+use Rattle.lg_config.specs.Meaning.Answer.{document_with}
 use Rattle.lg_config.specs.Meaning.BindReasons.{bind_reason}
 use Rattle.lg_config.specs.Meaning.Bounds.{most_bytes}
 use Rattle.lg_config.specs.Meaning.Families.{family_reason}
@@ -21,6 +21,7 @@ use Rattle.lg_config.specs.Meaning.FormReasons.{key_file_reason, seeds_reason, v
 use Rattle.lg_config.specs.Meaning.GroupReasons.{group_reason}
 use Rattle.lg_config.specs.Meaning.KeyReasons.{key_reason}
 use Rattle.lg_config.specs.Meaning.LeaveReasons.{leave_reason}
+use Rattle.lg_config.specs.Meaning.Options.{Options}
 use Rattle.lg_config.specs.Meaning.Ranges.{member_reason, own_reason}
 use Rattle.lg_config.specs.Meaning.Settings.{seeds_at}
 use Rattle.lg_config.specs.Meaning.StatusReasons.{loopback_reason, open_reason, status_reason}
@@ -77,10 +78,10 @@ IsUnreadReason false utf8 bytes line = line ≡ codes "the file has more than 65
 IsUnreadReason true false bytes line = line ≡ codes "the file isn't UTF-8\n"
 IsUnreadReason true true bytes line = IsTomlReason bytes line
 
--- the reason of a file's fault, by the document that its bytes spell, if they spell one
+-- the reason of a fault of a file and options, by the document that they spell together, if the bytes spell one
 abbrev pub IsReasonOf : Option Members → FileFault → List ℕ → List ℕ → Type 0
 IsReasonOf (Some members) found bytes line = line ≡ reason_of found members
 IsReasonOf None found bytes line = IsUnreadReason (nat_le (length bytes) most_bytes) (is_utf8 bytes) bytes line
 
-abbrev pub IsReason : FileFault → List ℕ → List ℕ → Type 0
-IsReason found bytes line = IsReasonOf (document_of bytes) found bytes line
+abbrev pub IsReason : FileFault → Options → List ℕ → List ℕ → Type 0
+IsReason found options bytes line = IsReasonOf (document_with options bytes) found bytes line

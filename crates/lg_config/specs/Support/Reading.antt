@@ -6,7 +6,7 @@ use Rattle.std.specs.Str.{is_utf8}
 use Rattle.std.specs.Prelude.{String}
 use Rattle.std.specs.BTreeMap.{BTreeMap}
 use Rattle.std.specs.declared.alloc.Global.{Global}
-use Rattle.toml.specs.Errors.{IsWithin}
+use Rattle.toml.specs.Errors.{IsBlank, IsWithin}
 use Rattle.toml.specs.Parse.{parse_document}
 use Rattle.toml.specs.View.{table_view}
 use Rattle.toml.specs.declared.value.Value.{Value}
@@ -15,19 +15,20 @@ use Rattle.lg_config.specs.declared.document.Unread.TheVariants as unread
 use Rattle.lg_config.specs.declared.fault.FileFault.TheVariants as fault
 use Rattle.lg_config.specs.declared.fault.ReadFault.{ReadFault}
 use Rattle.lg_config.specs.declared.fault.ReadFault.TheVariants.{NoMemory, File}
-use Rattle.lg_config.specs.Meaning.Answer.{document_of, TakesMemory}
+use Rattle.lg_config.specs.Meaning.Answer.{document_of, document_with, is_text_file, TakesMemory}
 use Rattle.lg_config.specs.Meaning.Bounds.{most_bytes}
+use Rattle.lg_config.specs.Meaning.Options.{Options}
 
 -- whether bytes are few enough for a file
 abbrev pub are_few : List ℕ → Bool
 are_few bytes = nat_le (length bytes) most_bytes
 
--- why bytes are no document, apart from refused memory
-abbrev pub IsUnread : List ℕ → Unread → Type 0
-IsUnread bytes unread.NoMemory = TakesMemory bytes
-IsUnread bytes unread.TooLong = are_few bytes ≡ false
-IsUnread bytes unread.NoUtf8 = (are_few bytes ≡ true) × (is_utf8 bytes ≡ false)
-IsUnread bytes (unread.NoToml error) =
+-- why bytes are no document, or that memory was refused, of which this is known
+abbrev pub IsUnread : (memory : Type 0) → List ℕ → Unread → Type 0
+IsUnread memory bytes unread.NoMemory = memory
+IsUnread memory bytes unread.TooLong = are_few bytes ≡ false
+IsUnread memory bytes unread.NoUtf8 = (are_few bytes ≡ true) × (is_utf8 bytes ≡ false)
+IsUnread memory bytes (unread.NoToml error) =
     (are_few bytes ≡ true) × (is_utf8 bytes ≡ true) × (parse_document bytes ≡ None) × IsWithin bytes error
 
 -- the text that bytes spell, or why they spell none
@@ -41,7 +42,12 @@ IsText bytes (Err (unread.NoToml error)) = ⊥
 -- what parsing bytes gives
 abbrev pub IsParsed : List ℕ → Result (BTreeMap (String Global) Value) Unread → Type 0
 IsParsed bytes (Ok table) = document_of bytes ≡ Some (table_view table)
-IsParsed bytes (Err why) = IsUnread bytes why
+IsParsed bytes (Err why) = IsUnread ((is_text_file bytes ≡ true) × ¬ (IsBlank bytes)) bytes why
+
+-- the same with options
+abbrev pub IsTableWith : Options → List ℕ → Result (BTreeMap (String Global) Value) Unread → Type 0
+IsTableWith options bytes (Ok table) = document_with options bytes ≡ Some (table_view table)
+IsTableWith options bytes (Err why) = IsUnread (TakesMemory options bytes) bytes why
 
 -- the fault of a file that wasn't read as a document
 abbrev pub SaysUnread : Unread → ReadFault → Type 0

@@ -1,4 +1,4 @@
--- How a configuration file is checked: what is written, and what is told.
+-- How a configuration is checked: what is written, and what is told.
 use Rattle.std.specs.Prelude.{◌≡◌, ◌⊎◌, ℕ, List, Option, Result, Ok, Err}
 use Rattle.std.specs.Io.KnownBytes.{Appends}
 use Rattle.lg_text.specs.Meaning.Reporting.{Reported}
@@ -9,11 +9,11 @@ use Rattle.lg_config.specs.declared.fault.ReadFault.{ReadFault}
 use Rattle.lg_config.specs.declared.fault.ReadFault.TheVariants.{NoMemory, File}
 use Rattle.lg_config.specs.declared.node.NodeConfig.{NodeConfig}
 use Rattle.lg_config.specs.Meaning.Answer.{IsAnswer}
+use Rattle.lg_config.specs.Meaning.Options.{Options, SourceValue}
 use Rattle.lg_check.specs.Meaning.Checks.{check_text}
 use Rattle.lg_run.specs.declared.told.Told.{Told}
-use Rattle.lg_run.specs.declared.file.NoBytes.{NoBytes}
 use Rattle.lg_run.specs.declared.told.Told.TheVariants.{Done, Memory}
-use Rattle.lg_run.specs.Meaning.Reporting.{TellsAlone, TellsFault, TellsLine, TellsNoBytes}
+use Rattle.lg_run.specs.Meaning.Reporting.{AreBytesOf, LacksBytes, TellsAlone, TellsFault, TellsLine}
 use Rattle.lg_run.specs.Meaning.Telling.{fault_told}
 
 -- A text is written whole. If the writing failed, a beginning of it may have been written. If memory for it was
@@ -42,29 +42,30 @@ pub record ChecksNode
 
 -- A configuration that was read is checked. If none was read, the reason is told, and nothing is written.
 abbrev pub ChecksConfig :
-    {W : Type 0} → (before after : W) (held holds : Option (List ℕ)) (reported reports : Reported) (bytes : List ℕ)
-    → Result NodeConfig ReadFault → (status : ℕ) → Type 0
-ChecksConfig before after held holds reported reports bytes (Ok n) status =
+    {W : Type 0} → (before after : W) (held holds : Option (List ℕ)) (reported reports : Reported) (options : Options)
+    (bytes : List ℕ) → Result NodeConfig ReadFault → (status : ℕ) → Type 0
+ChecksConfig before after held holds reported reports options bytes (Ok n) status =
     ChecksNode before after held holds reported reports n status
-ChecksConfig before after held holds reported reports bytes (Err NoMemory) status =
+ChecksConfig before after held holds reported reports options bytes (Err NoMemory) status =
     TellsAlone before after reported reports Memory status
-ChecksConfig before after held holds reported reports bytes (Err (File fault)) status =
-    (after ≡ before) × TellsFault reported reports bytes fault status
+ChecksConfig before after held holds reported reports options bytes (Err (File fault)) status =
+    (after ≡ before) × TellsFault reported reports options bytes fault status
 
--- The bytes of a file are read as a configuration, and the configuration is checked.
+-- The bytes of a file and options are read as a configuration, and the configuration is checked.
 pub record ChecksBytes
-    {W : Type 0} (before after : W) (held holds : Option (List ℕ)) (reported reports : Reported) (bytes : List ℕ)
-    (status : ℕ)
+    {W : Type 0} (before after : W) (held holds : Option (List ℕ)) (reported reports : Reported) (options : Options)
+    (bytes : List ℕ) (status : ℕ)
     : Type 0 where
   pub answer : Result NodeConfig ReadFault
-  pub read : IsAnswer bytes answer
-  pub checks : ChecksConfig before after held holds reported reports bytes answer status
+  pub read : IsAnswer options bytes answer
+  pub checks : ChecksConfig before after held holds reported reports options bytes answer status
 
--- A file gives some bytes, and these are checked. Or it gives none, since it can't be read or memory is refused for it;
--- then nothing is written, and it is told why.
-abbrev pub ChecksFile :
-    {W : Type 0} → (before after : W) (held holds : Option (List ℕ)) (reported reports : Reported) (file : List ℕ)
-    (status : ℕ) → Type 0
-ChecksFile before after held holds reported reports file status =
-    ((after ≡ before) × ((none : NoBytes) × TellsNoBytes reported reports file none status))
-    ⊎ ((bytes : List ℕ) × ChecksBytes before after held holds reported reports bytes status)
+-- There are some bytes of the file that is named, or none if no file is, and these are checked with options. Or it is
+-- told why there are no bytes to read, and then nothing is written.
+abbrev pub ChecksSource :
+    {W : Type 0} → (before after : W) (held holds : Option (List ℕ)) (reported reports : Reported)
+    (source : SourceValue) (status : ℕ) → Type 0
+ChecksSource before after held holds reported reports source status =
+    ((after ≡ before) × LacksBytes source.file reported reports status)
+    ⊎ ((bytes : List ℕ) × AreBytesOf source.file bytes
+    × ChecksBytes before after held holds reported reports source.options bytes status)

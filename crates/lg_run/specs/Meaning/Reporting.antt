@@ -1,8 +1,9 @@
 -- What is told, in a line or in two.
-use Rattle.std.specs.Prelude.{◌≡◌, ◌⊎◌, ℕ, List, []}
+use Rattle.std.specs.Prelude.{◌≡◌, ◌⊎◌, ℕ, List, [], Option, Some, None}
 use Rattle.std.specs.declared.io.ErrorKind.{ErrorKind}
 use Rattle.lg_text.specs.Meaning.Reporting.{Reported, Reports}
 use Rattle.lg_config.specs.declared.fault.FileFault.{FileFault}
+use Rattle.lg_config.specs.Meaning.Options.{Options}
 use Rattle.lg_config.specs.Meaning.Reasons.{IsReason}
 use Rattle.lg_run.specs.declared.file.NoBytes.{NoBytes}
 use Rattle.lg_run.specs.declared.file.NoBytes.TheVariants as none
@@ -17,11 +18,12 @@ pub record ReportsBoth (reported reports : Reported) (first second : List ℕ) :
   pub first_taken : Reports reported between first
   pub second_taken : Reports between reports second
 
--- A fault of a configuration file is told in two lines. If memory for the second is refused, there is none.
+-- A fault of a file and options is told in two lines. If memory for the second is refused, there is none.
 pub record TellsFault
-    (reported reports : Reported) (bytes : List ℕ) (fault : FileFault) (status : ℕ) : Type 0 where
+    (reported reports : Reported) (options : Options) (bytes : List ℕ) (fault : FileFault) (status : ℕ)
+    : Type 0 where
   pub second : List ℕ
-  pub reason : (second ≡ []) ⊎ IsReason fault bytes second
+  pub reason : (second ≡ []) ⊎ IsReason fault options bytes second
   pub lines : ReportsBoth reported reports (line_of (Config fault)) second
   pub is : status ≡ status_told (Config fault)
 
@@ -48,3 +50,13 @@ pub record TellsUnread
 abbrev pub TellsNoBytes : (reported reports : Reported) (file : List ℕ) → NoBytes → (status : ℕ) → Type 0
 TellsNoBytes reported reports file none.Memory status = TellsLine reported reports Memory status
 TellsNoBytes reported reports file (none.Read kind) status = TellsUnread reported reports file kind status
+
+-- It is told why there are no bytes to read: the file that is named gives none, or memory was refused.
+abbrev pub LacksBytes : Option (List ℕ) → (reported reports : Reported) (status : ℕ) → Type 0
+LacksBytes (Some file) reported reports status = (none : NoBytes) × TellsNoBytes reported reports file none status
+LacksBytes None reported reports status = TellsLine reported reports Memory status
+
+-- The bytes are those of the file that is named. What a file holds no contract can say. Without a file there are none.
+abbrev pub AreBytesOf : Option (List ℕ) → List ℕ → Type 0
+AreBytesOf (Some file) bytes = Unit {0}
+AreBytesOf None bytes = bytes ≡ []

@@ -15,19 +15,19 @@ use Rattle.lg_config.specs.declared.fault.ReadFault.TheVariants.{NoMemory, File}
 use Rattle.lg_config.specs.declared.node.NodeConfig.{NodeConfig}
 use Rattle.lg_config.specs.Meaning.Answer.{IsAnswer}
 use Rattle.lg_config.specs.Meaning.Binding.{bound_at}
+use Rattle.lg_config.specs.Meaning.Options.{SourceValue}
 use Rattle.lg_config.specs.Meaning.Seeds.{asked_addrs}
 use Rattle.lg_node.specs.declared.node.NodeEnd.{NodeEnd}
 use Rattle.lg_node.specs.declared.node.NodeFault.{NodeFault}
 use Rattle.lg_node.specs.declared.node.NodeFault.TheVariants as node
 use Rattle.lg_node.specs.declared.node.Settings.{Settings}
 use Rattle.lg_node.specs.Meaning.Nodes.{IsRun, IsEarly, TellsServed}
-use Rattle.lg_run.specs.declared.file.NoBytes.{NoBytes}
 use Rattle.lg_run.specs.declared.told.Told.TheVariants.{Memory}
 use Rattle.lg_run.specs.Meaning.Checking.{WritesText}
 use Rattle.lg_run.specs.Meaning.FirstNumber.{started_at}
 use Rattle.lg_run.specs.declared.key_file.NoKeys.{NoKeys}
 use Rattle.lg_run.specs.Meaning.KeyTelling.{TellsNoKeys}
-use Rattle.lg_run.specs.Meaning.Reporting.{ReportsBoth, TellsAlone, TellsFault, TellsNoBytes}
+use Rattle.lg_run.specs.Meaning.Reporting.{AreBytesOf, LacksBytes, ReportsBoth, TellsAlone, TellsFault}
 use Rattle.lg_run.specs.Meaning.Telling.{ending, line_of, run_told, status_told}
 use Rattle.lg_run.specs.Meaning.Wishes.{end_wished, is_announced}
 use Rattle.lg_run.specs.Meaning.Words.{link_reason, start_line}
@@ -132,7 +132,8 @@ pub record RunsNode
 
 -- The node of a configuration is announced, if it is to be, and run.
 pub record RunsAnnounced
-    {W : Type 0} (before after : W) (held holds : Option (List ℕ)) (reported reports : Reported) (file : List ℕ)
+    {W : Type 0} (before after : W) (held holds : Option (List ℕ)) (reported reports : Reported)
+    (file : Option (List ℕ))
     (n : NodeConfig) (keys : Option Keys) (until : Option ℕ) (follow : Bool) (status : ℕ)
     : Type 0 where
   pub announced : Reported
@@ -141,7 +142,8 @@ pub record RunsAnnounced
 
 -- That is done, or memory for the announcement is refused, and that is told.
 abbrev pub RunsOrRefused :
-    {W : Type 0} → (before after : W) (held holds : Option (List ℕ)) (reported reports : Reported) (file : List ℕ)
+    {W : Type 0} → (before after : W) (held holds : Option (List ℕ)) (reported reports : Reported)
+    (file : Option (List ℕ))
     (n : NodeConfig) (keys : Option Keys) (until : Option ℕ) (follow : Bool) (status : ℕ) → Type 0
 RunsOrRefused before after held holds reported reports file n keys until follow status =
     RunsAnnounced before after held holds reported reports file n keys until follow status
@@ -149,7 +151,8 @@ RunsOrRefused before after held holds reported reports file n keys until follow 
 
 -- That is done with the keys of its key file, if it names one. Or the key file gives none, and it is told why.
 abbrev pub RunsKeyed :
-    {W : Type 0} → (before after : W) (held holds : Option (List ℕ)) (reported reports : Reported) (file : List ℕ)
+    {W : Type 0} → (before after : W) (held holds : Option (List ℕ)) (reported reports : Reported)
+    (file : Option (List ℕ))
     (n : NodeConfig) (until : Option ℕ) (follow : Bool) (status : ℕ) → Type 0
 RunsKeyed before after held holds reported reports file n until follow status =
     ((keys : Option Keys) × AreKeysAt n.key_file keys
@@ -158,29 +161,31 @@ RunsKeyed before after held holds reported reports file n until follow status =
 
 -- A configuration that was read is run, with a first number by some time. If none was read, the reason is told.
 abbrev pub RunsConfig :
-    {W : Type 0} → (before after : W) (held holds : Option (List ℕ)) (reported reports : Reported) (bytes file : List ℕ)
-    → Result NodeConfig ReadFault → (until : Option ℕ) (follow : Bool) (status : ℕ) → Type 0
-RunsConfig before after held holds reported reports bytes file (Ok n) until follow status =
-    (time : ℕ) × RunsKeyed before after held holds reported reports file (started_at time n) until follow status
-RunsConfig before after held holds reported reports bytes file (Err NoMemory) until follow status =
+    {W : Type 0} → (before after : W) (held holds : Option (List ℕ)) (reported reports : Reported) (bytes : List ℕ)
+    (source : SourceValue) → Result NodeConfig ReadFault → (until : Option ℕ) (follow : Bool) (status : ℕ) → Type 0
+RunsConfig before after held holds reported reports bytes source (Ok n) until follow status =
+    (time : ℕ)
+    × RunsKeyed before after held holds reported reports source.file (started_at time n) until follow status
+RunsConfig before after held holds reported reports bytes source (Err NoMemory) until follow status =
     TellsAlone before after reported reports Memory status
-RunsConfig before after held holds reported reports bytes file (Err (File fault)) until follow status =
-    (after ≡ before) × TellsFault reported reports bytes fault status
+RunsConfig before after held holds reported reports bytes source (Err (File fault)) until follow status =
+    (after ≡ before) × TellsFault reported reports source.options bytes fault status
 
--- The bytes of a file are read as a configuration, and the configuration is run.
+-- The bytes of a file and options are read as a configuration, and the configuration is run.
 pub record RunsBytes
-    {W : Type 0} (before after : W) (held holds : Option (List ℕ)) (reported reports : Reported) (bytes file : List ℕ)
-    (until : Option ℕ) (follow : Bool) (status : ℕ)
+    {W : Type 0} (before after : W) (held holds : Option (List ℕ)) (reported reports : Reported) (bytes : List ℕ)
+    (source : SourceValue) (until : Option ℕ) (follow : Bool) (status : ℕ)
     : Type 0 where
   pub answer : Result NodeConfig ReadFault
-  pub read : IsAnswer bytes answer
-  pub runs : RunsConfig before after held holds reported reports bytes file answer until follow status
+  pub read : IsAnswer source.options bytes answer
+  pub runs : RunsConfig before after held holds reported reports bytes source answer until follow status
 
--- A file gives some bytes, and these are run. Or it gives none, since it can't be read or memory is refused for it;
--- then nothing is written, and it is told why.
-abbrev pub RunsFile :
-    {W : Type 0} → (before after : W) (held holds : Option (List ℕ)) (reported reports : Reported) (file : List ℕ)
-    (until : Option ℕ) (follow : Bool) (status : ℕ) → Type 0
-RunsFile before after held holds reported reports file until follow status =
-    ((after ≡ before) × ((none : NoBytes) × TellsNoBytes reported reports file none status))
-    ⊎ ((bytes : List ℕ) × RunsBytes before after held holds reported reports bytes file until follow status)
+-- There are some bytes of the file that is named, or none if no file is, and these are run. Or it is told why there are
+-- no bytes to read, and then nothing is written.
+abbrev pub RunsSource :
+    {W : Type 0} → (before after : W) (held holds : Option (List ℕ)) (reported reports : Reported)
+    (source : SourceValue) (until : Option ℕ) (follow : Bool) (status : ℕ) → Type 0
+RunsSource before after held holds reported reports source until follow status =
+    ((after ≡ before) × LacksBytes source.file reported reports status)
+    ⊎ ((bytes : List ℕ) × AreBytesOf source.file bytes
+    × RunsBytes before after held holds reported reports bytes source until follow status)

@@ -39,16 +39,22 @@ b-knowing seeds =
     }
 
 two-seeds :
-    start_line (codes "b.toml") (b-knowing (seed_of 97 ∷ nameless ∷ []))
+    start_line (Some (codes "b.toml")) (b-knowing (seed_of 97 ∷ nameless ∷ []))
     ≡ codes "lg: b at 127.0.0.1:7102, file b.toml, wire 1, 2 seeds\n"
 unfolding digits
 two-seeds = refl
 
 one-seed :
-    start_line (codes "/etc/b") (b-knowing (seed_of 97 ∷ []))
+    start_line (Some (codes "/etc/b")) (b-knowing (seed_of 97 ∷ []))
     ≡ codes "lg: b at 127.0.0.1:7102, file /etc/b, wire 1, 1 seed\n"
 unfolding digits
 one-seed = refl
+
+no-file :
+    start_line None (b-knowing (seed_of 97 ∷ []))
+    ≡ codes "lg: b at 127.0.0.1:7102, no file, wire 1, 1 seed\n"
+unfolding digits
+no-file = refl
 
 taken : link_reason (local_at 7102) error.AddrInUse ≡ codes "127.0.0.1:7102 can't be bound: the address is in use\n"
 unfolding digits

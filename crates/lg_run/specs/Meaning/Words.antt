@@ -1,6 +1,6 @@
 -- The lines in words: who starts, why a socket can't be bound, why a file can't be read, and why a status server ended
 -- early (this project's choice).
-use Rattle.std.specs.Prelude.{ℕ, ◌==◌, List, ◌++◌, codes, decimal, length, if◌then◌else◌}
+use Rattle.std.specs.Prelude.{ℕ, ◌==◌, List, ◌++◌, codes, decimal, length, if◌then◌else◌, Option, Some, None}
 use Rattle.std.specs.declared.io.ErrorKind.{ErrorKind}
 use Rattle.std.specs.declared.io.ErrorKind.TheVariants as error
 use Rattle.lg_rules.specs.declared.addr.Addr.{Addr}
@@ -11,13 +11,18 @@ use Rattle.lg_config.specs.declared.node.NodeConfig.{NodeConfig}
 abbrev pub seed_count : ℕ → List ℕ
 seed_count n = if n == 1 then codes "1 seed" else decimal n ++ codes " seeds"
 
+-- the file of a configuration, or that there is none
+abbrev pub file_words : Option (List ℕ) → List ℕ
+file_words (Some file) = codes "file " ++ file
+file_words None = codes "no file"
+
 -- lg: NAME at A.B.C.D:PORT, file FILE, wire VERSION, N seeds
-abbrev pub start_line : List ℕ → NodeConfig → List ℕ
+abbrev pub start_line : Option (List ℕ) → NodeConfig → List ℕ
 start_line file n =
     let seeds = seed_count (length n.seeds.items) ++ newline in
     let format = codes ", wire " ++ (decimal n.config.wire ++ (codes ", " ++ seeds)) in
     codes "lg: " ++ (n.config.name ++ (codes " at " ++ (addr_text n.config.addr
-    ++ (codes ", file " ++ (file ++ format)))))
+    ++ (codes ", " ++ (file_words file ++ format)))))
 
 -- why an address can't be bound, by the kind of the error
 abbrev pub bind_words : ErrorKind → List ℕ

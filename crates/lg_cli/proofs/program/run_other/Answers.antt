@@ -9,7 +9,7 @@ returns-in-Check g c =
     let contents = g.W.Write.contents in
     let reported = g.F.FaultStream.reported in
     let reader = c.args.reader.now in
-    let ran = c.check_file in
+    let ran = c.check_source-status in
     let before = streams reader (remaining reader) c.args.writer.now (contents c.args.writer.now) (reported c.args.faults.now) in
     let after = streams reader (remaining reader) ran.new.writer (contents ran.new.writer) (reported ran.new.faults) in
     found-runs before after ran.result c.in-Check.is

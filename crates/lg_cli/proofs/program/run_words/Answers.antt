@@ -1,4 +1,6 @@
-use Rattle.std.proofs.Common.{ℕ, Option, inr, refl, subst, ◌∙◌}
+use Rattle.std.proofs.Common.{ℕ, Option, inr, refl, subst, sym, ◌∙◌}
+use Rattle.lg_config.specs.Meaning.Options.{source_of}
+use Rattle.lg_run.specs.Meaning.Reporting.{AreBytesOf}
 use Rattle.lg_run.specs.Meaning.Running.{RunsBytes}
 use Rattle.lg_cli.specs.Meaning.Running.{streams}
 use Rattle.lg_cli.proofs.LineLaws.{left-runs, same-streams, taken-runs}
@@ -44,10 +46,11 @@ returns g c =
     (record {
       launched = inr (
         bytes,
+        subst (AreBytesOf (source_of c.in-Node.source).file) (sym c.deref-2.ensures.value) c.in-Ok-begin_node.ensures.bytes,
         subst (λ (until : Option ℕ). RunsBytes c.take_words.new.writer ran.new.writer
             (contents c.take_words.new.writer) (contents ran.new.writer)
             (reported begun) (reported ran.new.faults)
-            bytes c.in-Node.file.now until c.in-Node.follow ran.result) c.end_after.ensures ran.ensures,
+            bytes (source_of c.in-Node.source) until c.in-Node.follow ran.result) c.end_after.ensures ran.ensures,
       );
       unread = refl {a = reader};
     })

@@ -1,5 +1,6 @@
 use Rattle.std.proofs.Common.{Ok, inl, inr, refl, subst}
 use Rattle.lg_config.specs.declared.node.NodeConfig.{NodeConfig}
+use Rattle.lg_config.specs.Meaning.Options.{source_of}
 use Rattle.lg_run.specs.declared.told.Told.TheVariants.{Memory}
 use Rattle.lg_run.specs.Meaning.Reporting.{TellsLine}
 use Rattle.lg_run.specs.Meaning.Running.{RunsKeyed}
@@ -22,14 +23,14 @@ returns g c =
       runs = (
         c.system_time.result,
         subst (λ (n : NodeConfig). RunsKeyed c.args.writer.now written.new.writer (contents c.args.writer.now)
-            (contents written.new.writer) (reported c.args.faults.now) (reported told.new.faults) wishes.file.now n
+            (contents written.new.writer) (reported c.args.faults.now) (reported told.new.faults) (source_of wishes.source).file n
             wishes.until wishes.follow told.result) c.started_at-node.ensures.is
             (inl (
               keys,
               c.in-Ok-keys_at.ensures.keys,
               inl
                   (announced-runs contents reported c.args.writer.now run.new.writer written.new.writer
-                  c.args.faults.now c.announce.new.faults run.new.faults told.new.faults wishes.file.now node keys
+                  c.args.faults.now c.announce.new.faults run.new.faults told.new.faults (source_of wishes.source).file node keys
                   wishes.until wishes.follow c.settings_of-settings.result c.end_wished.result run.result written.result c.of.result told.result
                   c.in-Ok-announce.ensures.said c.settings_of-settings.ensures c.end_wished.ensures
                   run.ensures.ran run.ensures.refused run.ensures.alone run.ensures.unwritten run.ensures.told run.ensures.untold
@@ -51,7 +52,7 @@ returns-in-Err g c =
       runs = (
         c.system_time.result,
         subst (λ (n : NodeConfig). RunsKeyed writer writer (contents writer) (contents writer) (reported c.args.faults.now)
-            (reported told.new.faults) wishes.file.now n wishes.until wishes.follow told.result) c.started_at-node.ensures.is
+            (reported told.new.faults) (source_of wishes.source).file n wishes.until wishes.follow told.result) c.started_at-node.ensures.is
             (inr (c.in-Err.fault, c.in-Err.ensures.named, refl, told.ensures)),
       );
     }
@@ -70,7 +71,7 @@ returns-in_default g c =
       runs = (
         c.system_time.result,
         subst (λ (n : NodeConfig). RunsKeyed writer writer (contents writer) (contents writer) (reported c.args.faults.now)
-            (reported told.new.faults) wishes.file.now n wishes.until wishes.follow told.result) c.started_at-node.ensures.is
+            (reported told.new.faults) (source_of wishes.source).file n wishes.until wishes.follow told.result) c.started_at-node.ensures.is
             (inl (c.in-Ok-keys_at.keys, c.in-Ok-keys_at.ensures.keys, inr (refl {a = writer}, line))),
       );
     }

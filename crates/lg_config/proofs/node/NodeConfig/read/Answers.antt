@@ -9,8 +9,9 @@ use Rattle.lg_config.specs.declared.fault.FileFault.{FileFault}
 use Rattle.lg_config.specs.declared.fault.ReadFault.{ReadFault}
 use Rattle.lg_config.specs.declared.fault.ReadFault.TheVariants.{File}
 use Rattle.lg_config.specs.declared.node.NodeConfig.{NodeConfig}
-use Rattle.lg_config.specs.Meaning.Answer.{IsAnswer, answer_of, document_of, meaning_of, unless_syntax}
+use Rattle.lg_config.specs.Meaning.Answer.{IsAnswer, TakesMemory, answer_with, document_with, meaning_of, unless_syntax}
 use Rattle.lg_config.specs.Meaning.NodeKeys.{own_broken}
+use Rattle.lg_config.specs.Meaning.Options.{Options, options_of}
 use Rattle.lg_config.specs.Support.Reading.{IsUnread, SaysUnread}
 use Rattle.lg_config.specs.Meaning.Status.{may_listen}
 use Rattle.lg_config.proofs.MeaningLaws.{guarded-meaning, passed-meaning, within-meaning}
@@ -21,29 +22,30 @@ passed-on : {T E : Type 0} (P : Result T E → Type 0) (Q : E → Type 0) (r : R
 passed-on P Q (Ok x) is h = absurd is
 passed-on P Q (Err y) is h = h y is
 
-not-parsed : (bytes : List ℕ) (why : Unread) (told : ReadFault) → IsUnread bytes why → SaysUnread why told → IsAnswer bytes (Err told)
-unfolding answer_of
-not-parsed bytes unread.NoMemory told is says = rw says is
-not-parsed bytes unread.TooLong told is says = rw (says, is) refl
-not-parsed bytes unread.NoUtf8 told is says = rw (says, is.0, is.1) refl
-not-parsed bytes (unread.NoToml error) told is says = rw (says, is.0, is.1, is.2) refl
+not-parsed : (options : Options) (bytes : List ℕ) (why : Unread) (told : ReadFault) → IsUnread (TakesMemory options bytes) bytes why → SaysUnread why told → IsAnswer options bytes (Err told)
+unfolding answer_with
+not-parsed options bytes unread.NoMemory told is says = rw says is
+not-parsed options bytes unread.TooLong told is says = rw (says, is) refl
+not-parsed options bytes unread.NoUtf8 told is says = rw (says, is.0, is.1) refl
+not-parsed options bytes (unread.NoToml error) told is says = rw (says, is.0, is.1, is.2) refl
 
-read-as : (bytes : List ℕ) (m : Members) (r : Result NodeConfig FileFault) → document_of bytes ≡ Some m → r ≡ meaning_of m → answer_of bytes ≡ r
-unfolding answer_of
-read-as bytes m r is means = ap unless_syntax is ∙ sym means
+read-as : (options : Options) (bytes : List ℕ) (m : Members) (r : Result NodeConfig FileFault) → document_with options bytes ≡ Some m → r ≡ meaning_of m
+    → answer_with options bytes ≡ r
+unfolding answer_with
+read-as options bytes m r is means = ap unless_syntax is ∙ sym means
 
 pub returns-in_err-table-clause-answer : goal.returns-in_err-table-clause-answer
 returns-in_err-table-clause-answer c =
-    passed-on (IsAnswer c.args.bytes.now) (SaysUnread c.in_err-table.field-0.0) c.from_residual.result c.from_residual.ensures.1
-    (λ told says. not-parsed c.args.bytes.now c.in_err-table.field-0.0 told c.in_err-table.ensures says)
+    passed-on (IsAnswer (options_of c.args.given.now) c.args.bytes.now) (SaysUnread c.in_err-table.field-0.0) c.from_residual.result c.from_residual.ensures.1
+    (λ told says. not-parsed (options_of c.args.given.now) c.args.bytes.now c.in_err-table.field-0.0 told c.in_err-table.ensures says)
 
 pub returns-in_err-meaning_in-clause-answer : goal.returns-in_err-meaning_in-clause-answer
 returns-in_err-meaning_in-clause-answer c =
-    passed-on (IsAnswer c.args.bytes.now) (λ told. told ≡ File c.in_err-meaning_in.field-0.0) c.from_residual-in_err-meaning_in.result c.from_residual-in_err-meaning_in.ensures.1
-    (λ told says. subst (λ y. IsAnswer c.args.bytes.now (Err y)) (sym says) (read-as c.args.bytes.now _ _ c.in_ok-table.ensures c.in_err-meaning_in.ensures))
+    passed-on (IsAnswer (options_of c.args.given.now) c.args.bytes.now) (λ told. told ≡ File c.in_err-meaning_in.field-0.0) c.from_residual-in_err-meaning_in.result c.from_residual-in_err-meaning_in.ensures.1
+    (λ told says. subst (λ y. IsAnswer (options_of c.args.given.now) c.args.bytes.now (Err y)) (sym says) (read-as (options_of c.args.given.now) c.args.bytes.now _ _ c.in_ok-table.ensures c.in_err-meaning_in.ensures))
 
 pub returns-clause-answer : goal.returns-clause-answer
-returns-clause-answer c = read-as c.args.bytes.now _ _ c.in_ok-table.ensures c.in_ok-meaning_in.ensures
+returns-clause-answer c = read-as (options_of c.args.given.now) c.args.bytes.now _ _ c.in_ok-table.ensures c.in_ok-meaning_in.ensures
 
 pub returns-clause-checked : goal.returns-clause-checked
 returns-clause-checked c =

@@ -1,7 +1,7 @@
 use Rattle.std.proofs.Common.{ap, ◌∙◌}
 use Rattle.clap.specs.Simple.{app_of_fields, new_app}
 use Rattle.lg_command_line.proofs.CommandLaws.{adds_row, has_rows}
-use Rattle.lg_command_line.proofs.command.command_of.Goals as goal
+use Rattle.lg_command_line.proofs.command.with_options.Goals as goal
 
 pub loop-option-init : goal.loop-option-init
 loop-option-init c = record {
