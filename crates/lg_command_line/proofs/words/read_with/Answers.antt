@@ -8,23 +8,23 @@ use Rattle.lg_command_line.specs.Support.Requests.{request_of}
 use Rattle.lg_command_line.proofs.CommandLaws.{kind_of_first}
 use Rattle.lg_command_line.proofs.words.read_with.Goals as goal
 
-pub returns-in-Ok-clause-asked : goal.returns-in-Ok-clause-asked
+pub returns-in-Ok-asked-clause-asked : goal.returns-in-Ok-asked-clause-asked
 unfolding asked
-returns-in-Ok-clause-asked g c =
+returns-in-Ok-asked-clause-asked g c =
     let words = map g.S.AsStr.text c.args.words.now in
     let is_lg = c.requires in
-    let asks : request_of c.asked_in-asked.result ≡ asked words =
-    c.asked_in-asked.ensures ∙ ap request_of_rows ((c.in-Ok.ensures.ok.2 (ap is_simple is_lg)).1 ∙ ap (λ (a : App). subcommand_of a words) is_lg) in
+    let asks : request_of c.in-Ok-asked.asked ≡ asked words =
+    c.in-Ok-asked.ensures ∙ ap request_of_rows ((c.in-Ok.ensures.ok.2 (ap is_simple is_lg)).1 ∙ ap (λ (a : App). subcommand_of a words) is_lg) in
     IfOk-weaker c.checked.result _ _ (λ found same. same ∙ asks) c.checked.ensures.same
 
-pub returns-in-Ok-clause-refused : goal.returns-in-Ok-clause-refused
+pub returns-in-Ok-asked-clause-refused : goal.returns-in-Ok-asked-clause-refused
 unfolding line_faults asked
-returns-in-Ok-clause-refused g c =
+returns-in-Ok-asked-clause-refused g c =
     let words = map g.S.AsStr.text c.args.words.now in
     let is_lg = c.requires in
     let none = ap (λ (a : App). fault_of a words) (sym is_lg) ∙ c.in-Ok.ensures.kinds (ap is_simple_and_free is_lg) in
-    let asks : request_of c.asked_in-asked.result ≡ asked words =
-    c.asked_in-asked.ensures ∙ ap request_of_rows ((c.in-Ok.ensures.ok.2 (ap is_simple is_lg)).1 ∙ ap (λ (a : App). subcommand_of a words) is_lg) in
+    let asks : request_of c.in-Ok-asked.asked ≡ asked words =
+    c.in-Ok-asked.ensures ∙ ap request_of_rows ((c.in-Ok.ensures.ok.2 (ap is_simple is_lg)).1 ∙ ap (λ (a : App). subcommand_of a words) is_lg) in
     subst (λ (kinds : Kinds). FailsBy kinds c.checked.result)
     (ap request_faults asks ∙ sym (ap (λ (kinds : Kinds). or_else kinds (request_faults (asked words))) none)) c.checked.ensures.refused
 
