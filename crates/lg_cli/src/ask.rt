@@ -17,7 +17,7 @@ use std::rt;
 pub struct AskWords<'a> {
     /// What the node is asked, which says which of the commands it is.
     pub question: Question,
-    /// The text of the address at which the node answers, A.B.C.D:PORT. It may spell no address.
+    /// The text of the address at which the node answers, with its port. It may spell no address.
     pub at: &'a str,
     /// Whether the answers are written as they come, in place of lines.
     pub json: bool,

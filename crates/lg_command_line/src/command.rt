@@ -35,7 +35,7 @@ const CONFIG: OptionRow<'static> = OptionRow {
 
 const AT: OptionRow<'static> = OptionRow {
     id: "at",
-    takes: Takes::DefaultText("A.B.C.D:PORT", DEFAULT_AT),
+    takes: Takes::DefaultText("ADDR:PORT", DEFAULT_AT),
     help: "The address at which the node's status server listens",
 };
 

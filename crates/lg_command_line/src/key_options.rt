@@ -63,7 +63,7 @@ pub(crate) const KEY_ROWS: [KeyRow<'static>; 27] = [
     KeyRow {
         key: "status",
         name: "status",
-        text: "A.B.C.D:PORT",
+        text: "ADDR:PORT",
         help: "The address at which the status server listens",
     },
     KeyRow {
