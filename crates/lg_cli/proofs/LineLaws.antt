@@ -11,9 +11,9 @@ use Rattle.lg_run.specs.Meaning.Reporting.{LacksBytes, TellsLine}
 use Rattle.lg_cli.specs.Meaning.Running.{streams, Streams, RunsLine, RunsRequest}
 
 -- memory that is refused before there are bytes to read
-pub memory-lacks : (file : Option (List ℕ)) (reported reports : Reported) (status : ℕ) → TellsLine reported reports Memory status → LacksBytes file reported reports status
-memory-lacks None reported reports status told = told
-memory-lacks (Some file) reported reports status told = (none.Memory, told)
+pub memory_lacks : (file : Option (List ℕ)) (reported reports : Reported) (status : ℕ) → TellsLine reported reports Memory status → LacksBytes file reported reports status
+memory_lacks None reported reports status told = told
+memory_lacks (Some file) reported reports status told = (none.Memory, told)
 
 -- what the streams are if the writer and the stream for faults are as before
 pub same-streams : {R W F : Type 0} (contents : W → Option (List ℕ)) (reported : F → Reported) (reader : R) (left : Option (List ℕ)) {writer writer' : W} {faults faults' : F} → writer' ≡ writer → faults' ≡ faults

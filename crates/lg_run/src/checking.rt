@@ -36,7 +36,7 @@ where
     W: Write,
     F: FaultStream,
     ensures { ChecksSource writer.old writer.new (W.contents writer.old) (W.contents writer.new)
-        (F.reported faults.old) (F.reported faults.new) (source_of source) result }
+        (F.reported faults.old) (F.reported faults.new) (source_of source.entry) result }
 {
     match source_bytes(rt, alloc, source, faults) {
         Ok(bytes) => check_bytes(alloc, &bytes, source.given, writer, faults),

@@ -87,9 +87,9 @@ pub fn source_bytes<R: Files, F: FaultStream>(
     faults: &mut F,
 ) -> Result<Vec<u8>, u8>
     ensures silent { OnOk result (faults.new ≡ faults.old) }
-    ensures bytes { IfOk result (λ bytes. AreBytesOf (source_of source).file bytes.items) }
+    ensures bytes { IfOk result (λ bytes. AreBytesOf (source_of source.entry).file bytes.items) }
     ensures told { IfErr result (λ status.
-        LacksBytes (source_of source).file (F.reported faults.old) (F.reported faults.new) status) }
+        LacksBytes (source_of source.entry).file (F.reported faults.old) (F.reported faults.new) status) }
 {
     let Some(path) = source.file else {
         return Ok(Vec::new(alloc));

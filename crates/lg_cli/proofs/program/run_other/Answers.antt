@@ -1,4 +1,7 @@
-use Rattle.std.proofs.Common.{refl}
+use Rattle.std.proofs.Common.{◌≡◌, ap, refl, subst}
+use Rattle.lg_config.specs.Meaning.Options.{SourceValue}
+use Rattle.lg_run.specs.Meaning.Checking.{ChecksSource}
+use Rattle.lg_command_line.specs.Support.Requests.{source_with}
 use Rattle.lg_cli.specs.Meaning.Running.{streams}
 use Rattle.lg_cli.proofs.LineLaws.{found-runs}
 use Rattle.lg_cli.proofs.program.run_other.Goals as goal
@@ -9,12 +12,15 @@ returns-in-Check g c =
     let contents = g.W.Write.contents in
     let reported = g.F.FaultStream.reported in
     let reader = c.args.reader.now in
+    let file = c.in-Check.file in
     let ran = c.check_source-status in
     let before = streams reader (remaining reader) c.args.writer.now (contents c.args.writer.now) (reported c.args.faults.now) in
     let after = streams reader (remaining reader) ran.new.writer (contents ran.new.writer) (reported ran.new.faults) in
+    let source : source_with file c.as_slice.result.now ≡ source_with file c.in-Check.given.items = ap (source_with file) c.as_slice.ensures.value in
     found-runs before after ran.result c.in-Check.is
     (record {
-      checked = ran.ensures;
+      checked = subst (λ (s : SourceValue). ChecksSource c.args.writer.now ran.new.writer (contents c.args.writer.now) (contents ran.new.writer)
+          (reported c.args.faults.now) (reported ran.new.faults) s ran.result) source ran.ensures;
       unread = refl {a = reader};
     })
 
