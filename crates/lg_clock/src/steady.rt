@@ -74,7 +74,7 @@ impl Steady {
         // If the clock was handed this before (the latest first), it is now one that was handed this moment, too.
         ensures after { (past : List Handed) → self.old ≡ steady_after self.old.stall past
             → self.new ≡ steady_after self.old.stall
-                (record { machine = machine; turned = None; pause = 0 } ∷ past) }
+            (record { machine = machine; turned = None; pause = 0 } ∷ past) }
     {
         let free = self.free(machine);
         let held = self.held_back(free);
@@ -117,7 +117,7 @@ impl Steady {
         // If the clock was handed this before (the latest first), it is now one that was handed this turn, too.
         ensures after { (past : List Handed) → self.old ≡ steady_after self.old.stall past
             → self.new ≡ steady_after self.old.stall
-                (record { machine = machine; turned = Some of; pause = 0 } ∷ past) }
+            (record { machine = machine; turned = Some of; pause = 0 } ∷ past) }
     {
         self.begin_pause(of, 0, machine);
     }
@@ -134,7 +134,7 @@ impl Steady {
         // If the clock was handed this before (the latest first), it is now one that was handed this pause, too.
         ensures after { (past : List Handed) → self.old ≡ steady_after self.old.stall past
             → self.new ≡ steady_after self.old.stall
-                (record { machine = machine; turned = Some of; pause = ms } ∷ past) }
+            (record { machine = machine; turned = Some of; pause = ms } ∷ past) }
     {
         let now = self.read(machine);
         self.turns = Some(LastTurns::after(self.turns, of, pause_end(now, ms)));

@@ -44,7 +44,12 @@ fn refused_memory(rt: HostRuntime) {
         (1, long.as_slice(), GIVEN, FileFault::Syntax),
         (2, faulty.as_slice(), NONE, FileFault::Value),
         (2, b"".as_slice(), GIVEN, FileFault::Value),
-        (2, b"name = 1\nport = true".as_slice(), GIVEN, FileFault::Value),
+        (
+            2,
+            b"name = 1\nport = true".as_slice(),
+            GIVEN,
+            FileFault::Value,
+        ),
         (2, b"name = \"b\"".as_slice(), NO_NUMBER, FileFault::Key),
     ];
     for (readings, bytes, given, fault) in rows {

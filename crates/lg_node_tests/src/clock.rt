@@ -175,7 +175,10 @@ fn first_wrong_pause(rows: &[PauseRow]) -> Option<usize> {
 /// A clock in memory takes no pause for a stall.
 #[test]
 fn takes_no_pause_for_a_stall(rt: HostRuntime) {
-    for (i, rows) in [LATE, STOPPED_IN_PAUSE, WOKEN, LONG_PAUSE].iter().enumerate() {
+    for (i, rows) in [LATE, STOPPED_IN_PAUSE, WOKEN, LONG_PAUSE]
+        .iter()
+        .enumerate()
+    {
         let wrong = first_wrong_pause(rows);
         assert!(rt; wrong.is_none(), "play {i}: row {wrong:?}");
     }

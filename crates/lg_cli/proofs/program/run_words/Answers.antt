@@ -46,9 +46,9 @@ returns g c =
     let same = same-streams contents reported reader (remaining reader) {faults' = begun} took.unwritten unreported in
     let source : source_with file c.as_slice.result.now ≡ source_with file c.in-Node.given.items = ap (source_with file) c.as_slice.ensures.value in
     let run = subst (λ (until : Option ℕ). RunsBytes c.take_words.new.writer ran.new.writer
-        (contents c.take_words.new.writer) (contents ran.new.writer)
-        (reported begun) (reported ran.new.faults)
-        bytes (source_with file c.as_slice.result.now) until c.in-Node.follow ran.result) c.end_after.ensures ran.ensures in
+    (contents c.take_words.new.writer) (contents ran.new.writer)
+    (reported begun) (reported ran.new.faults)
+    bytes (source_with file c.as_slice.result.now) until c.in-Node.follow ran.result) c.end_after.ensures ran.ensures in
     taken-runs after took.taken took.asked same c.in-Node.is
     (record {
       launched = inr (
