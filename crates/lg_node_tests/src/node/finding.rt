@@ -400,8 +400,9 @@ fn members_and_seeds_are_asked(rt: HostRuntime) {
     }
 }
 
-/// Loops that know nobody. There is a tick at 0, and then each turn pauses 20 ms, the last one until the end. A loop is given by its bound, whether
-/// it is endless, and its end time. Then come why it ends, how many turns are counted, and at which moment.
+/// Loops that know nobody. There is a tick at 0, and then each turn pauses 20 ms, the last one until the end. A loop is
+/// given by its bound, whether it is endless, and its end time. Then come why it ends, how many turns are counted, and
+/// at which moment.
 const ENDS: &[(u64, bool, u64, Why, u64, u64)] = &[
     (MANY, false, 121, Why::Stopped, 8, 121),
     (3, false, 121, Why::ReadBound, 3, 40),
