@@ -1,8 +1,8 @@
 //! Writes an output by a thread of its own, so that whoever writes isn't held for ever by a reader that takes nothing.
 //!
 //! A [`Pump`] holds what is yet to be written. [`Pump::run`] is the work of its thread, which writes to the output. A
-//! [`PumpWriter`] hands texts to it, and waits until they are written: without an end at first, and for 2 s once it was
-//! told to stop.
+//! [`PumpWriter`] hands texts to it, and waits until they are written: without an end at first, and for 1.8 s once it
+//! was told to stop.
 //!
 //! Where to read on: what is handed over in which order, and in which pieces it is written,
 //! `specs/Meaning/Handing.antt`. What threads do no contract can say: `lg_command_tests/src/pumping.rt`.
