@@ -7,6 +7,7 @@ import ctypes
 import os
 import pathlib
 import random
+import select
 import signal
 import socket
 import subprocess
@@ -110,17 +111,23 @@ class Node:
     """A node of a configuration that runs, with these options of the command line.
 
     Its input is empty unless it is to stay open until `end` or `close_input`. What it writes goes to a pipe, or to a
-    file that is open. `variables` are added to those of its environment.
+    file that is open. `variables` are added to those of its environment. Its process calls `begin` before the program.
     """
 
-    def __init__(self, program, text, *options, has_input=False, output=subprocess.PIPE, variables=None):
+    def __init__(self, program, text, *options, has_input=False, output=subprocess.PIPE, variables=None, begin=None):
         with tempfile.NamedTemporaryFile("w", prefix="lg-node-", suffix=".toml", delete=False) as file:
             file.write(text)
         self.path = pathlib.Path(file.name)
-        self.ended = None
+        self.ended, self.errors = None, ""
+
+        def at_start():
+            end_with_parent()
+            if begin:
+                begin()
+
         self.process = subprocess.Popen(
             [program, "node", "--config", file.name, *options], stdout=output, stderr=subprocess.PIPE,
-            stdin=subprocess.PIPE if has_input else subprocess.DEVNULL, text=True, preexec_fn=end_with_parent,
+            stdin=subprocess.PIPE if has_input else subprocess.DEVNULL, text=True, preexec_fn=at_start,
             env={**os.environ, **(variables or {})})
 
     def is_running(self):
@@ -130,6 +137,15 @@ class Node:
         self.process.stdin.close()
         # What reads the output later has nothing to write then.
         self.process.stdin = None
+
+    def told_so_far(self):
+        """What it has told until now on standard error. It may still run."""
+        while not self.ended and select.select([self.process.stderr], [], [], 0)[0]:
+            part = os.read(self.process.stderr.fileno(), 65_536)
+            if not part:
+                break
+            self.errors += part.decode()
+        return self.errors
 
     def end(self, seconds=SECONDS):
         """Its status, what it wrote and what it told, once it has ended; one that doesn't end is killed."""
@@ -144,7 +160,8 @@ class Node:
                 if moment() >= limit:
                     self.process.kill()
         self.path.unlink()
-        self.ended = self.process.returncode, output, errors
+        self.errors += errors
+        self.ended = self.process.returncode, output, self.errors
         return self.ended
 
     def kill(self):

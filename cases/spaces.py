@@ -14,8 +14,10 @@ from contextlib import contextmanager
 from checks import Skipped, needed
 
 LIBC = ctypes.CDLL(None, use_errno=True)
-# CLONE_NEWNET of the system.
-NETWORK = 0x40000000
+LIBC.mount.argtypes = [ctypes.c_char_p, ctypes.c_char_p, ctypes.c_char_p, ctypes.c_ulong, ctypes.c_char_p]
+# CLONE_NEWNET and CLONE_NEWNS of the system, and of its mounts MS_BIND, and MS_REC with MS_PRIVATE.
+NETWORK, MOUNTS = 0x40000000, 0x20000
+BIND, APART = 0x1000, 0x4000 | 0x40000
 SECONDS = 20
 # What commands say of a kind of link, of a table or of a right that the system doesn't have.
 LACKS = ["Unknown device type", "not supported", "No such file or directory", "does not exist", "No chain/target/match",
@@ -57,6 +59,19 @@ def made_descriptor():
         os.close(before)
 
 
+def see_instead(files):
+    """Lets this process and those that it starts see other files at some paths than the machine has there.
+
+    The machine keeps its own, and no other process sees these: the mounts of this one are set apart from all others
+    first. Nothing is left of them behind the process.
+    """
+    calls = [(LIBC.unshare, MOUNTS), (LIBC.mount, None, b"/", None, APART, None)]
+    calls += [(LIBC.mount, os.fsencode(own), os.fsencode(path), None, BIND, None) for path, own in files.items()]
+    for call, *words in calls:
+        if call(*words):
+            raise OSError(ctypes.get_errno(), "no process can have files of its own")
+
+
 class Space:
     """A network namespace in which nothing is but the loopback device. Who may not make one, such as a user that isn't
     root, or has no `ip`, skips the check."""
@@ -64,7 +79,22 @@ class Space:
     def __init__(self):
         self.tool = needed("ip")
         self.descriptor = made_descriptor()
+        self.files = {}
         self.ip("link", "set", "dev", "lo", "up")
+
+    def show(self, files):
+        """Gives programs of it other files at some paths than the machine has there. If they can't have any, the check
+        is skipped."""
+        self.files = files
+        try:
+            self.run([self.tool, "-V"])
+        except subprocess.SubprocessError as error:
+            raise Skipped(f"no program can have files of its own in the place of {', '.join(files)}") from error
+
+    def begin(self):
+        """What a process of it has to call before its program."""
+        if self.files:
+            see_instead(self.files)
 
     @contextmanager
     def entered(self):
@@ -74,13 +104,15 @@ class Space:
             yield
 
     def run(self, words, text=""):
-        """Runs a command in it, with this input. If the system can't do or doesn't allow what the command asks for, the
-        check is skipped."""
+        """Runs a command in it, with this input, and gives what it writes. If the system can't do or doesn't allow what
+        the command asks for, the check is skipped."""
         with self.entered():
-            ran = subprocess.run(words, input=text, capture_output=True, text=True, timeout=SECONDS)
+            ran = subprocess.run(words, input=text, capture_output=True, text=True, timeout=SECONDS,
+                                 preexec_fn=self.begin)
         if ran.returncode:
             fault = f"{' '.join(words)} ended with status {ran.returncode}: {' '.join(ran.stderr.split())}"
             raise Skipped(fault) if any(it in ran.stderr for it in LACKS) else RuntimeError(fault)
+        return ran.stdout
 
     def ip(self, *words):
         """Sets its links, addresses and routes."""

@@ -33,8 +33,8 @@ def words_of(program, command, port, *more):
 
 def told_by(words, **how):
     """The status of a command, what it wrote, and what it told on standard error."""
-    ran = subprocess.run(words, stdin=subprocess.DEVNULL, stderr=subprocess.PIPE, timeout=PATIENCE, text=True,
-                         **{"stdout": subprocess.PIPE, **how})
+    ran = subprocess.run(words, stdin=subprocess.DEVNULL, stderr=subprocess.PIPE, text=True,
+                         **{"stdout": subprocess.PIPE, "timeout": PATIENCE, **how})
     return ran.returncode, ran.stdout, ran.stderr
 
 

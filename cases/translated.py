@@ -5,6 +5,7 @@ Each host has an own loopback device, so each node has its status server at the 
 """
 
 import http.client
+import json
 import os
 import socket
 from contextlib import ExitStack, contextmanager
@@ -92,24 +93,32 @@ def translate(router, port):
 
 @dataclass(frozen=True)
 class Place:
-    """What the file of a node says: the place that it tells, and further keys."""
+    """What the file of a node says: the place that it tells, and further keys. Its seeds are the told places of all,
+    unless it has `seeds` of its own. `written` is what it says of the address, if it isn't the address itself."""
 
     address: str
     port: int = PORT
     keys: str = ""
+    seeds: tuple[str, ...] | None = None
+    written: str | None = None
 
 
 class Members:
-    """The nodes of all hosts, which all have the told places of all as their seeds."""
+    """The nodes of some hosts, by the names of these."""
 
     def __init__(self, program, spaces, places):
-        self.spaces, self.places, self.nodes = spaces, places, {}
-        seeds = ", ".join(f'"{it.address}:{it.port}"' for it in places.values())
-        for name, it in places.items():
-            text = (f'name = "{name}"\naddress = "{it.address}"\nport = {it.port}\nseeds = [{seeds}]\n'
-                    f'status = "{HOST}:{STATUS}"\n{KEYS}{it.keys}')
-            with spaces[name].entered():
-                self.nodes[name] = Node(program, text, "--for-ms", str(LIFE_MS))
+        self.program, self.spaces, self.places, self.nodes = program, dict(spaces), dict(places), {}
+        for name in places:
+            self.start(name)
+
+    def start(self, name, life_ms=LIFE_MS):
+        """Starts the node of a name on its host."""
+        it, space = self.places[name], self.spaces[name]
+        seeds = [f"{other.address}:{other.port}" for other in self.places.values()] if it.seeds is None else it.seeds
+        text = (f'name = "{name}"\naddress = "{it.written or it.address}"\nport = {it.port}\n'
+                f'seeds = {json.dumps(seeds)}\nstatus = "{HOST}:{STATUS}"\n{KEYS}{it.keys}')
+        with space.entered():
+            self.nodes[name] = Node(self.program, text, "--for-ms", str(life_ms), begin=space.begin)
 
     def wanted(self, gone=()):
         """The status and the told place of each member, of whom some are gone."""
@@ -124,14 +133,18 @@ class Members:
             return None
         return {it["name"]: (it["status"], it["address"], it["port"]) for it in members}
 
-    def fault_unless_known(self, gone=""):
+    def fault_unless_known(self, gone="", seconds=PATIENCE):
         """Waits until all that aren't gone know the same. Gives what they know if they don't, and notes how long that
-        took."""
+        took. Once one has ended, the others aren't waited for."""
         names = [name for name in self.nodes if name not in gone]
-        took = wait_until(lambda: all(self.known(name) == self.wanted(gone) for name in names), PATIENCE)
-        if took is None:
+
+        def have_ended():
+            return [name for name in names if not self.nodes[name].is_running()]
+
+        took = wait_until(lambda: have_ended() or all(self.known(name) == self.wanted(gone) for name in names), seconds)
+        if took is None or have_ended():
             known = {name: self.known(name) for name in names}
-            ended = {name: self.nodes[name].end() for name in names if not self.nodes[name].is_running()}
+            ended = {name: self.nodes[name].end() for name in have_ended()}
             return f"once {gone or 'nobody'} had gone they knew {known}; these had ended: {ended}"
         NOTES.append(f"{gone or 'nobody'} gone: known after {took:.1f} s")
         return None

@@ -14,18 +14,21 @@ from fuzzing.wire import THREE, is_name
 MOST_BYTES = 65_536
 MOST_DEPTH = 80
 SYNTAX, KEY, VALUE = 12, 13, 14
-STATUS, STATUS_OPEN, STATUS_NOT_LOOPBACK, KEY_FILE, LEAVE, BIND, FAMILY = 18, 19, 20, 21, 27, 28, 29
+STATUS, STATUS_OPEN, STATUS_NOT_LOOPBACK, KEY_FILE, LEAVE, BIND, FAMILY, AUTO = 18, 19, 20, 21, 27, 28, 29, 31
 TEXT_KEYS = ("name", "address", "key_file", "group")
 INTEGER_KEYS = ("port", "dice")
 # Keys of which a value of another type is a fault of its own.
 ANY_KEYS = ("status", "status_open", "leave", "bind")
 # Of the node's own numbers: the least, the greatest, the default and the number of the fault.
-OWN_NUMBERS = {"pull_ms": (0, 3_600_000, 30_000, 16), "stall_ms": (0, 60_000, 100, 17)}
+OWN_NUMBERS = {"pull_ms": (0, 3_600_000, 30_000, 16), "stall_ms": (0, 60_000, 100, 17),
+               "resolve_ms": (1000, 3_600_000, 60_000, 30)}
 DEFAULT_TEXTS = {"address": "127.0.0.1", "port": 7946}
 # The configuration's numbers that a file may have: all but the first number of a probe.
 FILE_NUMBERS = {key: row for key, row in NUMBERS.items() if key != "first"}
 KEYS = {*TEXT_KEYS, *INTEGER_KEYS, *ANY_KEYS, *FILE_NUMBERS, *OWN_NUMBERS, "seeds"}
 LOOPBACK = [0] * 15 + [1]
+# What stands for an address that is to be found.
+UNFOUND = [0] * 4
 SHOWN_MEMBERS = (4, 16, 64, 256)
 # What TOML 1.1 or another reader of dates may take though Python's reader doesn't.
 UNSURE = re.compile(rb"\\[ex]|\{|\d\d:\d\d|\d{4}-\d\d|^\xef\xbb\xbf")
@@ -137,14 +140,23 @@ def place_text(place):
     return f"[{address}]:{place[1]}" if ":" in address else f"{address}:{place[1]}"
 
 
+def host_in(text, port=None):
+    """A host and its port as `HOST:PORT` has them, or `HOST`, if a port is given here. None if it is out of its form."""
+    before, colon, behind = text.partition(":")
+    is_host = re.fullmatch("[A-Za-z0-9._-]{1,253}", before) and re.search("[A-Za-z]", before)
+    found = number_in(behind, 1, 65535) if colon else port
+    return f"{before}:{found}" if is_host and found else None
+
+
 def seed_in(text):
-    """The name of a seed, None if it has none, and its place. None if the seed is out of its form."""
+    """The name of a seed, None if it has none, and the text of its place. None if the seed is out of its form."""
     if "@" not in text:
-        place = place_or_port(text, DEFAULT_TEXTS["port"])
-        return place and (None, place)
+        place, host = place_or_port(text, DEFAULT_TEXTS["port"]), host_in(text, DEFAULT_TEXTS["port"])
+        return (None, place_text(place) if place else host) if place or host else None
     name, _, behind = text.partition("@")
-    place = place_in(behind)
-    return (name, place) if place and is_name(name.encode(errors="replace")) else None
+    place, host = place_in(behind), host_in(behind)
+    is_right = (place or host) and is_name(name.encode(errors="replace"))
+    return (name, place_text(place) if place else host) if is_right else None
 
 
 # ---- What a document means
@@ -211,7 +223,8 @@ def meaning_of(document):
     """The values of a document, defaults filled in, by their keys. Raises the first fault."""
     must(all(key in KEYS and is_of_type(key, value) for key, value in document.items()) and "name" in document, KEY)
     values = DEFAULT_TEXTS | document | numbers_of(document)
-    address = address_in(values["address"]) or ipv6_in(values["address"])
+    is_auto = values["address"] == "auto"
+    address = UNFOUND if is_auto else address_in(values["address"]) or ipv6_in(values["address"])
     seeds = [seed_in(it) for it in document.get("seeds", [])]
     must(is_name(values["name"].encode(errors="replace")) and address and 1 <= values["port"] <= 65535
          and values.get("dice", 0) >= 0 and None not in seeds, VALUE)
@@ -229,15 +242,17 @@ def meaning_of(document):
     values["leave"] = leave_of(document)
     values["bind"] = place_text(bind_of(document, address, values["port"]))
     must(len(address) == 4 or values["wire"] == THREE, FAMILY)
-    values["own_place"] = place_text((address, values["port"]))
-    return values | {"address": address_text(address), "seeds": seeds}
+    must(seeds or not is_auto, AUTO)
+    values["own_place"] = f"auto:{values['port']}" if is_auto else place_text((address, values["port"]))
+    values["bind"] = values["own_place"] if is_auto and "bind" not in document else values["bind"]
+    return values | {"address": "auto" if is_auto else address_text(address), "seeds": seeds}
 
 
 def shown(values):
     """The lines of `lg check`."""
     order = ["name", "address", "port", "bind", "dice", "seeds", *FILE_NUMBERS, *OWN_NUMBERS, "status", "status_open",
              "leave", "key_file", "group"]
-    seeds = ", ".join(f"{name}@{place_text(place)}" if name else place_text(place) for name, place in values["seeds"])
+    seeds = ", ".join(f"{name}@{place}" if name else place for name, place in values["seeds"])
     texts = values | {"seeds": seeds or "none", "status": place_text(values["status"]) if values["status"] else "none",
                       "status_open": str(values["status_open"]).lower(), "key_file": values["key_file"] or "none",
                       "group": values["group"] or "none"}

@@ -12,6 +12,8 @@ PATHS = ["group.key", "", "x" * 255, "x" * 256, "a\nb", "\x7f", "é", "/a b/~", 
 IPV6 = ["::1", "::", "2001:db8::5", "2001:DB8:0:0:1:0:0:5", "::ffff:192.0.2.1", "1::2::3", "::1%1", "1:2:3:4:5:6:7",
         "1:2:3:4:5:6:7:8", "::12345", "1::", ":", "::010.0.0.1"]
 SWITCHES = ["on", "off", "On", "", "true", "on "]
+HOSTS = ["a", "db.example", "A-1_.z", "1.2.3.4x", "fe80", "x" * 253, "x" * 254, "12", "1.2.3", "-", "", "a b", "a/b",
+         "é"]
 PORTS = ["1", "7946", "65535", "65536", "0", "00001", "", "x", "-1"]
 # Values of each TOML type and spelling, right or wrong at any key.
 VALUES = [
@@ -58,6 +60,11 @@ def address(dice):
                     for _ in range(dice.choice([4, 4, 4, 4, 4, 4, 3, 5])))
 
 
+def own_address(dice):
+    """An address, or the word for one that is to be found."""
+    return dice.choice(["auto", "auto", "auto", "Auto", "auto:1"]) if dice.random() < 0.3 else address(dice)
+
+
 def place(dice):
     """An address with a port, often of loopback."""
     where = dice.choice(["127.0.0.1", "127.1.2.3", "0.0.0.0", "128.0.0.1", address(dice)])
@@ -71,12 +78,22 @@ def bound(dice):
     return place(dice) if dice.random() < 0.7 else address(dice)
 
 
+def host(dice):
+    """A host that mostly has a port."""
+    name = dice.choice(HOSTS[:6] if dice.random() < 0.8 else HOSTS)
+    port = dice.choice(PORTS[:3] if dice.random() < 0.9 else PORTS)
+    return name + dice.choice([f":{port}", f":{port}", f":{port}", "", "::"])
+
+
 def seeds(dice):
     """An array of seeds, mostly with distinct names, in one of its spellings."""
     count = dice.choice([0, 1, 2, dice.randrange(16), 16, 17])
     texts = [f"s{number}@{place(dice) if dice.random() < 0.03 else '127.0.0.1:7'}" for number in range(count)]
     texts += [f"{dice.choice(NAMES)}@{place(dice)}"] if dice.random() < 0.3 else []
     texts = [bound(dice) if dice.random() < 0.2 else it for it in texts] if dice.random() < 0.5 else texts
+    at = dice.choice(["", "", "s0@", "c@", "b@", "@"])
+    texts += [f"{at}{host(dice)}" for _ in range(dice.choice([1, 1, 2]))] if dice.random() < 0.4 else []
+    dice.shuffle(texts)
     items = [spelled(dice, it) for it in texts]
     gap = dice.choice([", ", ",", " ,\n\t", ", # seeds\n"])
     end = dice.choice(["", ",", "\n"]) if items else ""
@@ -87,7 +104,8 @@ def right_value(dice, key):
     """A value for a key that is no fault, whatever else the file has."""
     texts = {"name": "b", "address": "127.0.0.1", "status": dice.choice(["127.0.0.1:8946", "127.9.0.10:1"]),
              "leave": dice.choice(["on", "off"]), "bind": dice.choice(["0.0.0.0", "127.0.0.1:7946", "127.9.0.10:1"])}
-    plain = {"seeds": "[]", "status_open": dice.choice(["true", "false"])}
+    plain = {"seeds": dice.choice(["[]", '["db.example"]', '["c7@db.example:1", "10.0.0.7"]']),
+             "status_open": dice.choice(["true", "false"])}
     if key in ROWS:
         least, most, default = ROWS[key][:3]
         # The timeout has to be shorter than the interval.
@@ -101,7 +119,7 @@ def wild_value(dice, key):
         return dice.choice(VALUES)
     if key in ROWS:
         return whole_number(dice, number_near(dice, ROWS[key]))
-    made = {"name": lambda: spelled(dice, dice.choice(NAMES)), "address": lambda: spelled(dice, address(dice)),
+    made = {"name": lambda: spelled(dice, dice.choice(NAMES)), "address": lambda: spelled(dice, own_address(dice)),
             "seeds": lambda: seeds(dice), "status": lambda: spelled(dice, place(dice)),
             "leave": lambda: spelled(dice, dice.choice(SWITCHES)), "bind": lambda: spelled(dice, bound(dice)),
             "key_file": lambda: spelled(dice, dice.choice(PATHS)), "group": lambda: spelled(dice, dice.choice(NAMES))}
@@ -124,7 +142,8 @@ class Files(RunKind):
     wrong_rules = (
         (files, "MOST_DEPTH", 0), (files, "TEXT_KEYS", ("name",)), (files, "SYNTAX", 13), (files, "VALUE", 11),
         (files, "SHOWN_MEMBERS", (4, 16, 32, 256)), (files, "STATUS_NOT_LOOPBACK", 19),
-        (files, "KEY_FILE", 20), (files, "GROUP_FAULT", 25), (files, "LEAVE", 26), (files, "BIND", 27), (files, "FAMILY", 28),
+        (files, "KEY_FILE", 20), (files, "GROUP_FAULT", 25), (files, "LEAVE", 26), (files, "BIND", 27),
+        (files, "FAMILY", 28), (files, "AUTO", 29),
         (files, "OWN_NUMBERS", files.OWN_NUMBERS | {"pull_ms": (1, 3_600_000, 30_000, 16)}),
         (numbers, "MOST_SEEDS", 15), (numbers, "MAY_BE_OFF", ()),
         (numbers, "RATIOS", [[900], [0, 1000], *numbers.RATIOS[2:]]))
@@ -138,8 +157,10 @@ class Files(RunKind):
         wild = set(dice.sample(keys, min(len(keys), dice.choice([0, 1, 1, 1, 2, len(keys)]))))
         # A member of a group mostly sends version three, and one with an address, which may be IPv6, half the time.
         share = 0.9 if "group" in keys else 0.5 if "address" in keys else 0
-        fixed = ["wire = 3"] if dice.random() < share else []
-        lines = fixed + [line(dice, key, key in wild) for key in keys if key != "wire" or not fixed]
+        fixed = {"wire": "wire = 3"} if dice.random() < share else {}
+        # An address that is to be found needs seeds.
+        fixed |= {"address": 'address = "auto"'} if {"address", "seeds"} <= set(keys) and dice.random() < 0.5 else {}
+        lines = [*fixed.values(), *(line(dice, key, key in wild) for key in keys if key not in fixed)]
         if dice.random() < 0.05:
             other = dice.choice(["", "# words", "[table]", "[[rows]]", "\t", "=", "\r"])
             lines.insert(dice.randrange(len(lines) + 1), other)

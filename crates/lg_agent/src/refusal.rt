@@ -21,8 +21,8 @@ pub enum Refusal {
     /// Memory was refused.
     #[error("memory was refused")]
     NoMemory,
-    /// As many entries are stored as the configuration allows, which is the number here. Or there were 4,000,000,000
-    /// events, and that is then the number here.
+    /// As many entries are stored as the configuration allows, which is the number here, and a rotation makes room. Or
+    /// there were 4,000,000,000 events, and that is then the number here; nothing makes room then.
     #[error("the history is full: {0} entries are its limit")]
     HistoryFull(u64),
     /// The pass has seen more events than are published. This should never happen.
@@ -33,7 +33,7 @@ pub enum Refusal {
         /// How many are published.
         here: u64,
     },
-    /// There is no such seat; or, at an opening, there was no reader for one.
+    /// The seat isn't from 1 to the number of places; or, at an opening, there was no reader for a seat.
     #[error("there is no such place, or no reader for one")]
     NoPlace,
     /// At a look: the published value wasn't handed out. While the agent is open, this should never happen.
@@ -67,11 +67,13 @@ pub enum CloseFault {
     /// one that another has as well.
     #[error("a Spent is another agent's, or has a place that isn't there, or that another Spent has")]
     Foreign,
-    /// The calls of a [`Spent`](crate::Spent) aren't those of its seat in the history. Of the entries that were cut
-    /// off the number is compared, of the others the positions.
+    /// The calls of a [`Spent`](crate::Spent) aren't those of its seat in the history. Entries that were cut off are
+    /// compared by their number, the others by their positions. Or, which should never happen, the calls are those, and
+    /// the [`Spent`](crate::Spent) has seen more events than the history has; the index is then that after its last
+    /// call.
     #[error("the calls of place {seat} aren't those of the history, from call {index} on")]
     Differs {
-        /// The least such seat.
+        /// The least such seat; of those that only saw too much, that of the first in the list.
         seat: usize,
         /// The first index, counted over all calls of the pass, at which the two lists differ; one of them may end
         /// there. If the numbers differ, it is the lesser of the two.

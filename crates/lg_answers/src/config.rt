@@ -7,15 +7,16 @@ ghost use Rattle.std.specs.Prelude.{◌≡◌, ◌++◌, IfOk, OnOk, codes, stri
 ghost use Rattle.std.specs.List.{flat_map};
 ghost use Rattle.lg_timing.specs.Meaning.Keys.{keys};
 ghost use Rattle.lg_answers.specs.Meaning.Bodies.{bind_field, config_body, config_front, group_field, key_field};
-ghost use Rattle.lg_answers.specs.Meaning.Bodies.{leaving_field, name_value, number_field, open_field, own_field};
-ghost use Rattle.lg_answers.specs.Meaning.Bodies.{seed_json, status_field, status_value, truth_text};
+ghost use Rattle.lg_answers.specs.Meaning.Bodies.{host_fields, leaving_field, name_value, number_field, open_field};
+ghost use Rattle.lg_answers.specs.Meaning.Bodies.{own_field, place_fields, seed_json, status_field, status_value};
+ghost use Rattle.lg_answers.specs.Meaning.Bodies.{truth_text};
 ghost use Rattle.lg_answers.specs.Meaning.Members.{behind_comma, comma_separated};
 
 use crate::health::put_truth;
 use crate::members::put_address;
 use crate::snapshot::{NodeNumber, ShownConfig};
 use lg_check::text_of_name;
-use lg_config::SeedPlace;
+use lg_config::{Host, Place, SeedPlace};
 use lg_rules::{Addr, Name};
 use lg_text::put_addr;
 use lg_timing::{Config, KEYS, Key};
@@ -146,15 +147,36 @@ fn put_bind_field(bind: &Addr, text: &mut String) -> Result<(), AllocError>
     text.push_str("\"")
 }
 
+/// Appends the name of a host and its port. No byte of the name needs an escape.
+#[tactic(auto, unfolding(crate::specs::Meaning::Bodies::host_fields))]
+fn put_host(host: &Host, text: &mut String) -> Result<(), AllocError>
+    ensures { OnOk result (string_bytes text.new ≡ string_bytes text.old ++ host_fields host.now) }
+{
+    let name = host.name.as_str();
+    let port = host.port;
+    write!(text, "\"address\":\"{name}\",\"port\":{port}")
+}
+
+/// Appends a place.
+#[tactic(auto, unfolding(crate::specs::Meaning::Members::address_fields))]
+fn put_place(place: &Place, text: &mut String) -> Result<(), AllocError>
+    ensures { OnOk result (string_bytes text.new ≡ string_bytes text.old ++ place_fields place.now) }
+{
+    match place {
+        Place::Addr(addr) => put_address("\"address\":\"", addr, text),
+        Place::Host(host) => put_host(host, text),
+    }
+}
+
 /// Appends a seed.
-#[tactic(auto, unfolding(crate::specs::Meaning::Bodies::seed_json, crate::specs::Meaning::Members::address_fields))]
+#[tactic(auto, unfolding(crate::specs::Meaning::Bodies::seed_json))]
 fn put_seed(seed: &SeedPlace, text: &mut String) -> Result<(), AllocError>
     ensures { OnOk result (string_bytes text.new ≡ string_bytes text.old ++ seed_json seed.now) }
 {
     text.push_str("{\"name\":")?;
     put_name_value(&seed.name, text)?;
     text.push_str(",")?;
-    put_address("\"address\":\"", &seed.addr, text)?;
+    put_place(&seed.place, text)?;
     text.push_str("}")
 }
 

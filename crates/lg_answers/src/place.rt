@@ -1,4 +1,4 @@
-//! The paths that there are, but for those of single members: one table.
+//! The fixed paths that a node answers, in one table. The path of a single member isn't among them.
 //!
 //! Defined in: `specs/Meaning/Places.antt`.
 //! Tested in: `lg_answers_tests/src/route.rt`.
@@ -6,10 +6,10 @@ ghost use Rattle.std.specs.Prelude.{◌≡◌};
 ghost use Rattle.std.specs.Option.{option_map};
 ghost use Rattle.lg_answers.specs.Meaning.Places.{has_path, member_name, place_at, place_path};
 
-/// What stands before the name of a member in the path of one.
+/// The front of a single member's path: a name follows it.
 const MEMBERS: &[u8] = b"/v1/members/";
 
-/// A path that there is, but for those of single members.
+/// A fixed path that a node answers.
 #[derive(Clone, Copy, Debug, PartialEq, Eq)]
 pub(crate) enum Place {
     /// `/`.

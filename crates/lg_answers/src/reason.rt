@@ -27,7 +27,7 @@ pub enum RouteFault {
     #[error("the query has to be status=alive, status=suspect, status=failed or status=left")]
     BadStatus,
     /// The query of `/v1/changes` isn't made of `after=V` and `wait_ms=W`, each at most once.
-    #[error("the query has to be after=V&wait_ms=W, with V of 1 to 16 digits and W 0 to 30000")]
+    #[error("the query takes after=V and wait_ms=W, each at most once, with V of 1 to 16 digits and W 0 to 30000")]
     BadChanges,
 }
 
@@ -60,7 +60,7 @@ impl RouteFault {
                 "the query has to be status=alive, status=suspect, status=failed or status=left"
             }
             RouteFault::BadChanges => {
-                "the query has to be after=V&wait_ms=W, with V of 1 to 16 digits and W 0 to 30000"
+                "the query takes after=V and wait_ms=W, each at most once, with V of 1 to 16 digits and W 0 to 30000"
             }
         }
     }

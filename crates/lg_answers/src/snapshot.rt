@@ -1,4 +1,4 @@
-//! What the answers are made of: plain values of one look at a node.
+//! What the answers are made of: plain values that were read of a node.
 //!
 //! Defined in: this file.
 //! Tested in: `lg_answers_tests/src/answer.rt`.
@@ -9,10 +9,13 @@ use lg_counters::{Counts, Drops};
 use lg_rules::{Addr, Incarnation, Name, Record};
 use lg_timing::{Config, MAX_SEEDS, Moment};
 
-/// What one look at a node found.
+/// What is shown of a node: what its last answered look found, and what was read of its clock and its counters.
+///
+/// The version, the records, the score, the incarnation and `ousted` are of one list of events. The rest is read after
+/// that look, while the node goes on. If a look is refused, those five stay as they are, and the rest is read anew.
 #[derive(Debug, Drop)]
 pub struct Snapshot {
-    /// How many events the records are after.
+    /// How many events there had been when the records stood so.
     pub version: u64,
     /// The moment of the look.
     pub moment: Moment,
@@ -26,9 +29,9 @@ pub struct Snapshot {
     pub incarnation: Incarnation,
     /// Whether this member is ousted.
     pub ousted: bool,
-    /// How long the node has run, in milliseconds.
+    /// How long the node has run, in milliseconds, with the time that its clock left out.
     pub uptime_ms: u64,
-    /// How long the node stood still, in milliseconds.
+    /// How much of the machine's time the node's clock has left out, in milliseconds.
     pub stood_still_ms: u64,
     /// The moment of the last event, in milliseconds.
     pub last_event_ms: u64,

@@ -2,7 +2,7 @@
 //! request are compared, of which one may be refused.
 use arrayvec::ArrayVec;
 use lg_answers::{
-    Changes, Drops, LeaveAsked, MAX_CHANGES, NodeNumber, SeedPlace, ShownConfig, Snapshot,
+    Changes, Drops, LeaveAsked, MAX_CHANGES, NodeNumber, Place, SeedPlace, ShownConfig, Snapshot,
     answer_to,
 };
 use lg_counters::Counters;
@@ -45,8 +45,8 @@ fn snapshot(alloc: Global, ousted: bool) -> Result<Snapshot, AllocError> {
 /// What b runs with: the default numbers, and a as its seed.
 fn setup(alloc: Global, status_open: bool) -> Result<ShownConfig, AllocError> {
     let mut seeds = ArrayVec::new();
-    let (name, addr) = (Some(letter(b'a')), local(7101));
-    seeds.push(SeedPlace { name, addr });
+    let (name, place) = (Some(letter(b'a')), Place::Addr(local(7101)));
+    seeds.push(SeedPlace { name, place });
     let (key, value) = ("dice", 1);
     Ok(ShownConfig {
         config: Config::new(letter(b'b'), local(7102)),

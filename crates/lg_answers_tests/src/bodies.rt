@@ -95,18 +95,20 @@ const CONFIG: &str =
     "{\"name\":\"b\",\"address\":\"127.0.0.1\",\"port\":7102,\"interval_ms\":2000,\"timeout_ms\":500,\
     \"indirect\":3,\"max_score\":8,\"alpha\":5,\"beta\":6,\"confirmations\":3,\"lambda\":4,\"nack_thousandths\":800,\
     \"history_limit\":20000,\"wire\":1,\"forget_ms\":0,\"gossip_ms\":200,\"gossip_to\":3,\"first\":1,\"dice\":1,\
-    \"pull_ms\":30000,\"stall_ms\":100,\"group\":null,\"status\":\"127.0.0.1:8946\",\"status_open\":false,\
-    \"leave\":true,\"bind\":\"127.0.0.1:7102\",\"seeds\":[\
+    \"pull_ms\":30000,\"stall_ms\":100,\"resolve_ms\":60000,\"group\":null,\"status\":\"127.0.0.1:8946\",\
+    \"status_open\":false,\"leave\":true,\"bind\":\"127.0.0.1:7102\",\"seeds\":[\
     {\"name\":\"a\",\"address\":\"127.0.0.1\",\"port\":7101},\
     {\"name\":null,\"address\":\"127.0.0.1\",\"port\":7105},\
     {\"name\":\"d\",\"address\":\"127.0.0.1\",\"port\":7104},\
-    {\"name\":null,\"address\":\"2001:db8::1\",\"port\":7106}]}";
+    {\"name\":null,\"address\":\"2001:db8::1\",\"port\":7106},\
+    {\"name\":null,\"address\":\"db.example\",\"port\":7946},\
+    {\"name\":\"e\",\"address\":\"DB-2\",\"port\":1}]}";
 
 const OUSTED_CONFIG: &str =
     "{\"name\":\"b\",\"address\":\"127.0.0.1\",\"port\":7102,\"interval_ms\":2000,\"timeout_ms\":500,\
     \"indirect\":3,\"max_score\":8,\"alpha\":5,\"beta\":6,\"confirmations\":3,\"lambda\":4,\"nack_thousandths\":800,\
     \"history_limit\":20000,\"wire\":1,\"forget_ms\":0,\"gossip_ms\":200,\"gossip_to\":3,\"first\":1,\"dice\":1,\
-    \"pull_ms\":30000,\"stall_ms\":100,\"group\":null,\"status\":null,\"status_open\":true,\
+    \"pull_ms\":30000,\"stall_ms\":100,\"resolve_ms\":60000,\"group\":null,\"status\":null,\"status_open\":true,\
     \"leave\":false,\"bind\":\"[2001:db8::1]:7102\",\"seeds\":[]}";
 
 const METRICS: &[&str] = &[

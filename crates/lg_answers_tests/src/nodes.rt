@@ -2,7 +2,8 @@
 use crate::target::parts_of;
 use arrayvec::ArrayVec;
 use lg_answers::{
-    Changes, Counts, Drops, MAX_CHANGES, NodeNumber, SeedPlace, ShownConfig, Snapshot, answer_to,
+    Changes, Counts, Drops, Host, HostName, MAX_CHANGES, NodeNumber, Place, SeedPlace, ShownConfig,
+    Snapshot, answer_to,
 };
 use lg_http::HttpAnswer;
 use lg_rules::{Addr, Name, Record, Status};
@@ -95,9 +96,24 @@ fn snapshot(alloc: Global, ousted: bool) -> Result<Snapshot, AllocError> {
     })
 }
 
-/// A seed of this name, or without one.
+/// A seed of this name, or without one, at an address.
 fn seed(name: Option<Name>, addr: Addr) -> SeedPlace {
-    SeedPlace { name, addr }
+    SeedPlace {
+        name,
+        place: Place::Addr(addr),
+    }
+}
+
+/// A seed of this name at a host.
+fn seed_at(name: Option<Name>, host: &[u8], port: u16) -> SeedPlace {
+    let name_of_host = HostName::of(host).unwrap_or_default();
+    SeedPlace {
+        name,
+        place: Place::Host(Host {
+            name: name_of_host,
+            port,
+        }),
+    }
 }
 
 /// An address of IPv6 for documents (RFC 3849).
@@ -108,13 +124,15 @@ fn documentation(port: u16) -> Addr {
     )
 }
 
-/// The seeds of b: one without a name between two that have names, and one of IPv6.
+/// The seeds of b: one without a name between two that have names, one of IPv6, and two at hosts.
 fn seeds() -> ArrayVec<SeedPlace, MAX_SEEDS> {
     let seeds = [
         seed(Some(letter(b'a')), local(7101)),
         seed(None, local(7105)),
         seed(Some(letter(b'd')), local(7104)),
         seed(None, documentation(7106)),
+        seed_at(None, b"db.example", 7946),
+        seed_at(Some(letter(b'e')), b"DB-2", 1),
     ];
     let mut kept = ArrayVec::new();
     for seed in seeds {
@@ -144,7 +162,12 @@ fn setup(alloc: Global, node: Node) -> Result<ShownConfig, AllocError> {
         Node::Ousted => (documentation(7102), ArrayVec::new()),
         Node::Usual | Node::Busy => (local(7102), seeds()),
     };
-    let numbers = [own("dice", 1), own("pull_ms", 30_000), own("stall_ms", 100)];
+    let numbers = [
+        own("dice", 1),
+        own("pull_ms", 30_000),
+        own("stall_ms", 100),
+        own("resolve_ms", 60_000),
+    ];
     Ok(ShownConfig {
         config: config(),
         numbers: Vec::from_array(alloc, numbers)?,

@@ -139,7 +139,7 @@ fn words(rt: HostRuntime) {
         (
             BadChanges,
             400,
-            "the query has to be after=V&wait_ms=W, with V of 1 to 16 digits and W 0 to 30000",
+            "the query takes after=V and wait_ms=W, each at most once, with V of 1 to 16 digits and W 0 to 30000",
         ),
     ];
     for (fault, code, words) in rows {

@@ -1,13 +1,15 @@
 //! One word of a set: 64 flags, the lowest bit first.
 //!
 //! Defined in: `specs/Meaning/Flags.antt`, `specs/Support/Words.antt`.
+//! Tested in: `lg_parts_tests/src/bit_set.rt`.
 ghost use Rattle.std.specs.Prelude.{◌≡◌, ℕ, ◌+◌, ◌-◌, ◌<◌, ◌≤◌, count_ones, Some, nat_eq, nat_lt};
 ghost use Rattle.std.specs.Int.{bit_at};
 ghost use Rattle.lg_bit_set.specs.Meaning.Flags.{nth_number};
 ghost use Rattle.lg_bit_set.specs.Support.Steps.{IsOnTheWay};
 ghost use Rattle.lg_bit_set.specs.Support.Words.{word_flags};
 
-/// From how many set bits on it is quicker to pass by places than to clear the bits one by one, as measured.
+/// From how many set bits below the one that is looked for it is quicker to pass by places than to clear bits one by
+/// one, as measured.
 const FEW: usize = 16;
 
 /// A word of which some of the lowest places were passed by, on the way to one of its set bits.

@@ -55,14 +55,14 @@ fn put_groups(config: &Config, text: &mut String) -> Result<(), AllocError>
 /// (Lifeguard, local health aware suspicion). The forms are this project's choice.
 ///
 /// The configuration has to be checked. The only error is that memory was refused. Memory is allocated for the text,
-/// which has 31 lines.
+/// which has 32 lines.
 #[tactic(auto, unfolding(crate::specs::Meaning::Checks::check_text))]
 pub fn check_text(alloc: Global, node: &NodeConfig) -> Result<String, AllocError>
     requires { IsChecked node.now.config }
     ensures { IfOk result (λ text. string_bytes text ≡ check_text node.now) }
 {
     let mut text = String::new(alloc);
-    put_address(alloc, &node.config, &mut text)?;
+    put_address(alloc, node, &mut text)?;
     put_start(alloc, node, &mut text)?;
     put_members(&node.config, &FILE_KEYS, &mut text)?;
     put_owns(node, &NODE_KEYS, &mut text)?;

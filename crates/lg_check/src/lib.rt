@@ -1,7 +1,8 @@
 //! What a configuration file says, and the times that follow: the text of a check.
 //!
-//! [`check_text`] writes it. [`text_of_name`] and [`addr_text`] spell a name and an address for other lines too.
-//! Contracts of other crates cite `check_text` (`specs/Meaning/Checks.antt`).
+//! [`check_text`] writes it. [`text_of_name`], [`addr_text`] and [`host_text`] spell a name, an address and a host for
+//! other lines too. Contracts of other crates cite `check_text` (`specs/Meaning/Checks.antt`) and `host_text`
+//! (`Spelling.antt`).
 #![tactic(auto)]
 
 mod check;
@@ -9,4 +10,4 @@ mod lines;
 mod spelling;
 
 pub use check::check_text;
-pub use spelling::{addr_text, text_of_name};
+pub use spelling::{addr_text, host_text, text_of_name};

@@ -4,7 +4,8 @@
 //! Tested in: `cases/check.case`.
 ghost use Rattle.std.specs.Prelude.{◌≡◌, ◌≤◌, ◌++◌, OnOk, string_bytes};
 ghost use Rattle.lg_timing.specs.Meaning.Config.{IsChecked};
-ghost use Rattle.lg_check.specs.Meaning.Checks.{address_lines, bind_line, default_mark, group_line, key_line};
+ghost use Rattle.lg_check.specs.Meaning.Checks.{address_line, address_lines, bind_line, bound_line, default_mark};
+ghost use Rattle.lg_check.specs.Meaning.Checks.{group_line, key_line, unfound_bind_line};
 ghost use Rattle.lg_check.specs.Meaning.Checks.{key_file_line, listening_line, member_line, number_line, own_line};
 ghost use Rattle.lg_check.specs.Meaning.Checks.{group_name_line, leave_line, server_lines, start_lines};
 ghost use Rattle.lg_check.specs.Meaning.Checks.{status_open_line, times_line};
@@ -41,28 +42,70 @@ fn put_number(key: &str, number: u64, usual: u64, text: &mut String) -> Result<(
     writeln!(text, "{key} = {number}{mark}")
 }
 
+/// Appends the line of the member's address to a text, which is a word if it is to be found.
+fn put_own_address(alloc: Global, node: &NodeConfig, text: &mut String) -> Result<(), AllocError>
+    ensures { OnOk result (string_bytes text.new ≡ string_bytes text.old ++ address_line node.now) }
+{
+    if node.auto {
+        return put_key("address", "auto", false, text);
+    }
+    let address = ip_text(alloc, &node.config.addr.ip)?;
+    let is_default = address.as_str() == DEFAULT_ADDRESS;
+    put_key("address", address.as_str(), is_default, text)
+}
+
 /// Appends the lines of the member's name and address to a text.
 pub(crate) fn put_address(
     alloc: Global,
-    config: &Config,
+    node: &NodeConfig,
     text: &mut String,
 ) -> Result<(), AllocError>
-    ensures { OnOk result (string_bytes text.new ≡ string_bytes text.old ++ address_lines config.now) }
+    ensures { OnOk result (string_bytes text.new ≡ string_bytes text.old ++ address_lines node.now) }
 {
-    put_key("name", text_of_name(&config.name), false, text)?;
-    let address = ip_text(alloc, &config.addr.ip)?;
-    let is_default = address.as_str() == DEFAULT_ADDRESS;
-    put_key("address", address.as_str(), is_default, text)
+    put_key("name", text_of_name(&node.config.name), false, text)?;
+    put_own_address(alloc, node, text)
+}
+
+/// Appends the line of where the node's socket is bound to a text, if the member's address is known.
+fn put_bound(alloc: Global, node: &NodeConfig, text: &mut String) -> Result<(), AllocError>
+    ensures { OnOk result (string_bytes text.new ≡ string_bytes text.old ++ bound_line node.now) }
+{
+    let bound = node.bound_at();
+    let is_default = bound == node.config.addr;
+    let spelled = addr_text(alloc, bound)?;
+    put_key("bind", spelled.as_str(), is_default, text)
+}
+
+/// Appends the same if that address is to be found, by where the file has the socket bound, and by the member's port.
+fn put_unfound_bind(
+    alloc: Global,
+    bind: Option<Addr>,
+    port: u16,
+    text: &mut String,
+) -> Result<(), AllocError>
+    ensures { OnOk result (string_bytes text.new ≡ string_bytes text.old ++ unfound_bind_line bind port) }
+{
+    match bind {
+        Some(addr) => {
+            let spelled = addr_text(alloc, addr)?;
+            put_key("bind", spelled.as_str(), false, text)
+        }
+        None => {
+            let spelled = format!(in alloc; "auto:{port}")?;
+            put_key("bind", spelled.as_str(), true, text)
+        }
+    }
 }
 
 /// Appends the line of where the node's socket is bound to a text.
 fn put_bind(alloc: Global, node: &NodeConfig, text: &mut String) -> Result<(), AllocError>
     ensures { OnOk result (string_bytes text.new ≡ string_bytes text.old ++ bind_line node.now) }
 {
-    let bound = node.bound_at();
-    let is_default = bound == node.config.addr;
-    let spelled = addr_text(alloc, bound)?;
-    put_key("bind", spelled.as_str(), is_default, text)
+    if node.auto {
+        put_unfound_bind(alloc, node.bind, node.config.addr.port, text)
+    } else {
+        put_bound(alloc, node, text)
+    }
 }
 
 /// Appends the lines of the port, of where the socket is bound, of the dice and of the seeds to a text.

@@ -1,15 +1,15 @@
-//! Spells names, addresses, seeds, paths, groups, truth values and whether something is on.
+//! Spells names, addresses, hosts, seeds, paths, groups, truth values and whether something is on.
 //!
 //! Defined in: `specs/Meaning/Spelling.antt`, `lg_text/specs/Meaning/Addresses.antt`.
 //! Tested in: `cases/check.case`.
 ghost use Rattle.std.specs.Prelude.{◌≡◌, ◌++◌, IfOk, OnOk, string_bytes};
 ghost use Rattle.std.specs.List.{flat_map};
 ghost use Rattle.lg_text.specs.Meaning.Addresses.{addr_text, ip_text};
-ghost use Rattle.lg_check.specs.Meaning.Spelling.{named_spelled, next_seed, seed_spelled, seeds_spelled};
+ghost use Rattle.lg_check.specs.Meaning.Spelling.{host_text, named_spelled, next_seed, place_text, seed_spelled};
 ghost use Rattle.lg_check.specs.Meaning.Spelling.{group_spelled, path_spelled, status_spelled, switch_spelled};
-ghost use Rattle.lg_check.specs.Meaning.Spelling.{truth_spelled};
+ghost use Rattle.lg_check.specs.Meaning.Spelling.{seeds_spelled, truth_spelled};
 
-use lg_config::{FilePath, SeedPlace};
+use lg_config::{FilePath, Host, Place, SeedPlace};
 use lg_rules::{Addr, Ip, Name};
 use lg_text::{put_addr, put_ip};
 use std::alloc::{AllocError, Global};
@@ -44,22 +44,41 @@ pub fn addr_text(alloc: Global, addr: Addr) -> Result<String, AllocError>
     Ok(text)
 }
 
-/// The text NAME@ADDRESS:PORT of a seed that has this name.
-fn named_spelled(alloc: Global, name: &Name, addr: Addr) -> Result<String, AllocError>
-    ensures { IfOk result (λ text. string_bytes text ≡ named_spelled name.now addr) }
+/// The text of a host with its port: HOST:PORT. Allocates the text; the only error is that memory was refused.
+pub fn host_text(alloc: Global, host: &Host) -> Result<String, AllocError>
+    ensures { IfOk result (λ text. string_bytes text ≡ host_text host.now) }
 {
-    let addr = addr_text(alloc, addr)?;
-    let name = text_of_name(name);
-    format!(in alloc; "{name}@{addr}")
+    let name = host.name.as_str();
+    let port = host.port;
+    format!(in alloc; "{name}:{port}")
 }
 
-/// The text of a seed: NAME@ADDRESS:PORT, or ADDRESS:PORT if it has no name.
+/// The text of a place with its port: ADDRESS:PORT or HOST:PORT.
+fn place_text(alloc: Global, place: &Place) -> Result<String, AllocError>
+    ensures { IfOk result (λ text. string_bytes text ≡ place_text place.now) }
+{
+    match place {
+        Place::Addr(addr) => addr_text(alloc, *addr),
+        Place::Host(host) => host_text(alloc, host),
+    }
+}
+
+/// The text NAME@PLACE of a seed that has this name.
+fn named_spelled(alloc: Global, name: &Name, place: &Place) -> Result<String, AllocError>
+    ensures { IfOk result (λ text. string_bytes text ≡ named_spelled name.now place.now) }
+{
+    let place = place_text(alloc, place)?;
+    let name = text_of_name(name);
+    format!(in alloc; "{name}@{place}")
+}
+
+/// The text of a seed: NAME@PLACE, or PLACE if it has no name. A place has its port.
 fn seed_spelled(alloc: Global, seed: &SeedPlace) -> Result<String, AllocError>
     ensures { IfOk result (λ text. string_bytes text ≡ seed_spelled seed.now) }
 {
     match &seed.name {
-        Some(name) => named_spelled(alloc, name, seed.addr),
-        None => addr_text(alloc, seed.addr),
+        Some(name) => named_spelled(alloc, name, &seed.place),
+        None => place_text(alloc, &seed.place),
     }
 }
 

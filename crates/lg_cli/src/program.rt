@@ -20,13 +20,13 @@ use lg_client::leave_node;
 use lg_command_line::{Asked, MAX_RUN_MS, take_words};
 use lg_commands::{FAILED, USAGE, answer_named, order_lists, simulate, timeouts_of, write_init};
 use lg_config::Source;
-use lg_run::{Wishes, check_source, run_bytes};
+use lg_run::{FaultStreams, Wishes, check_source, run_bytes};
 use lg_text::{FaultStream, RunFault, report};
 use lg_timing::Moment;
 use std::alloc::Global;
 use std::convert::AsStr;
 use std::io::{ErrorKind as IoErrorKind, Read, Write};
-use std::net::Net;
+use std::net::{Net, TcpListener, TcpStream};
 use std::random::RandomSource;
 use std::rt::Files;
 use std::sync::Wait;
@@ -63,8 +63,8 @@ pub fn run_words<M, S, I, O, R, W, F>(
     faults: &mut F,
 ) -> u8
 where
-    M: AllocGlobal + Wait + Threads + Net + rt::Clock + Files + RandomSource,
-    M: Copy + Send + Sync + 'static,
+    M: AllocGlobal + Wait + Threads + rt::Clock + Files + RandomSource + FaultStreams,
+    M: Net<Listener = TcpListener, Stream = TcpStream> + Copy + Send + Sync + 'static,
     S: AsStr,
     I: Read + Send + Drop + 'static,
     O: Write + Send + Drop + 'static,

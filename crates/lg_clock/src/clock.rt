@@ -23,7 +23,8 @@ pub trait Clock {
     /// Waits this many milliseconds.
     fn pause(&self, ms: u64);
 
-    /// Waits this many milliseconds, or less if a clock can: until the signal is told an earlier deadline than this one.
+    /// Waits this many milliseconds, or less if a clock can: until the signal is told an earlier deadline than this
+    /// one.
     fn pause_before(&self, ms: u64, _deadline: u64, _signal: &DeadlineSignal) {
         self.pause(ms);
     }

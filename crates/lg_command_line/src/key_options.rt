@@ -23,7 +23,7 @@ pub(crate) struct KeyRow<'a> {
 
 /// The options of all keys that a file may have, in the order in which `docs/FORMATS.md` has them. A contract compares
 /// them with the table of the keys.
-pub(crate) const KEY_ROWS: [KeyRow<'static>; 27] = [
+pub(crate) const KEY_ROWS: [KeyRow<'static>; 28] = [
     KeyRow {
         key: "name",
         name: "name",
@@ -34,7 +34,7 @@ pub(crate) const KEY_ROWS: [KeyRow<'static>; 27] = [
         key: "address",
         name: "address",
         text: "A.B.C.D",
-        help: "The address that the others are told, of IPv4 or IPv6",
+        help: "The address that the others are told, of IPv4 or IPv6, or auto, by which it is found at the start",
     },
     KeyRow {
         key: "port",
@@ -59,6 +59,12 @@ pub(crate) const KEY_ROWS: [KeyRow<'static>; 27] = [
         name: "stall-ms",
         text: "N",
         help: "The most by which the node's clock passes a loop's last turn, in milliseconds",
+    },
+    KeyRow {
+        key: "resolve_ms",
+        name: "resolve-ms",
+        text: "N",
+        help: "How often the hosts among the seeds are resolved, in milliseconds",
     },
     KeyRow {
         key: "status",
@@ -100,7 +106,7 @@ pub(crate) const KEY_ROWS: [KeyRow<'static>; 27] = [
         key: "seeds",
         name: "seed",
         text: "A.B.C.D",
-        help: "A member to join, with NAME@ before it and :PORT behind it if wanted; once for each seed",
+        help: "An address or a host to join, with NAME@ before it and :PORT behind it if wanted; once for each seed",
     },
     KeyRow {
         key: "interval_ms",

@@ -1,13 +1,10 @@
 //! What configuration files mean, value by value. The cases of the program show which files are faulty, and how.
+use crate::seed_rows::{Known, KnownAt, has_places, has_seeds};
 use lg_config::{
-    DEFAULT_ADDRESS, DEFAULT_PORT, FileFault, Given, KNOWN_KEYS, MAX_FILE, NodeConfig, SeedPlace,
-    reason,
+    DEFAULT_ADDRESS, DEFAULT_PORT, FileFault, Given, KNOWN_KEYS, MAX_FILE, NodeConfig, reason,
 };
 use lg_rules::Addr;
 use lg_testing::name;
-
-/// A seed: its name, which is empty if it has none, its address and its port.
-type Known = (&'static [u8], [u8; 4], u16);
 
 /// A file of a member b and options, and what they mean together.
 #[derive(Clone, Copy, Debug)]
@@ -17,12 +14,14 @@ struct Row {
     octets: [u8; 4],
     port: u16,
     dice: u64,
-    /// `pull_ms` and `stall_ms`.
-    own: [u64; 2],
+    /// `pull_ms`, `stall_ms` and `resolve_ms`.
+    own: [u64; 3],
     /// The numbers, in the order of the keys: from `interval_ms` to `history_limit`, `wire`, `forget_ms`, `gossip_ms`,
     /// `gossip_to`.
     numbers: [u64; 14],
+    /// The seeds at addresses, and those at hosts, which come behind them.
     seeds: &'static [Known],
+    hosts: &'static [KnownAt],
     /// The seeds that the member knows from the start.
     known: &'static [Known],
     /// Whom the node asks for a table.
@@ -37,6 +36,8 @@ struct Row {
     leave: bool,
     /// Where the socket is bound, if the file says it.
     bind: Option<Addr>,
+    /// Whether the address is to be found.
+    auto: bool,
 }
 
 /// The numbers of a file that gives none.
@@ -64,13 +65,14 @@ gossip_ms = 0
 gossip_to = 8
 pull_ms = 3600000
 stall_ms = 0
+resolve_ms = 1000
 status = \"10.1.2.3:8946\"
 status_open = true
 key_file = \"/etc/lg/group.key\"
 group = \"grn\"
 leave = \"off\"
 bind = \"0.0.0.0\"
-seeds = [\"c@127.0.0.1:7002\", \"10.1.2.4\", \"10.1.2.3:7001\", \"a@1.2.3.4:5\"]
+seeds = [\"c@127.0.0.1:7002\", \"10.1.2.4\", \"10.1.2.3:7001\", \"a@1.2.3.4:5\", \"d@db.example:1\", \"DB-2\"]
 ";
 
 /// Options that give what the file with all keys says.
@@ -156,6 +158,10 @@ const ALL_GIVEN: &[Given<'static>] = &[
         text: "0",
     },
     Given {
+        key: "resolve_ms",
+        text: "1000",
+    },
+    Given {
         key: "status",
         text: "10.1.2.3:8946",
     },
@@ -195,38 +201,15 @@ const ALL_GIVEN: &[Given<'static>] = &[
         key: "seeds",
         text: "a@1.2.3.4:5",
     },
+    Given {
+        key: "seeds",
+        text: "d@db.example:1",
+    },
+    Given {
+        key: "seeds",
+        text: "DB-2",
+    },
 ];
-
-/// Whether a seed of a file is this one.
-fn is_seed(seed: &SeedPlace, known: &Known) -> bool {
-    let wanted = if known.0.is_empty() {
-        None
-    } else {
-        Some(name(known.0))
-    };
-    seed.name == wanted && seed.addr == Addr::v4(known.1, known.2)
-}
-
-/// Whether the seeds of a configuration are those of a row: all of them, those with names, and those that are asked.
-fn has_seeds(node: &NodeConfig, row: &Row) -> bool {
-    let known = &node.config.seeds;
-    let asked = node.asked();
-    node.seeds.len() == row.seeds.len()
-        && node
-            .seeds
-            .iter()
-            .zip(row.seeds)
-            .all(|(seed, wanted)| is_seed(seed, wanted))
-        && known.len() == row.known.len()
-        && known.iter().zip(row.known).all(|(seed, wanted)| {
-            seed.name == name(wanted.0) && seed.addr == Addr::v4(wanted.1, wanted.2)
-        })
-        && asked.len() == row.asked.len()
-        && asked
-            .iter()
-            .zip(row.asked)
-            .all(|(addr, wanted)| *addr == Addr::v4(wanted.0, wanted.1))
-}
 
 /// Whether a configuration is that of a row.
 fn is_of(node: &NodeConfig, row: &Row) -> bool {
@@ -250,21 +233,23 @@ fn is_of(node: &NodeConfig, row: &Row) -> bool {
     config.name == name(b"b")
         && (config.addr, node.dice) == (Addr::v4(row.octets, row.port), row.dice)
         && numbers == row.numbers
-        && [node.pull_ms, node.stall_ms] == row.own
+        && [node.pull_ms, node.stall_ms, node.resolve_ms] == row.own
         && (node.status, node.status_open) == row.status
         && node.key_file.as_ref().map(|path| path.as_str()) == row.key_file
         && config.group == row.group.map(|letters| name(letters))
-        && (node.leave, node.bind) == (row.leave, row.bind)
+        && (node.leave, node.bind, node.auto) == (row.leave, row.bind, row.auto)
         && node.bound_at() == row.bind.unwrap_or(config.addr)
         && config.first == 1
-        && has_seeds(node, row)
+        && has_places(node, row.seeds, row.hosts)
+        && has_seeds(node, row.known, row.asked)
 }
 
 /// Each value of some files: one with only its name, one with all keys, an empty one beside options of all keys, one
 /// whose values are wrong beside these, one whose seed an option replaces, one that writes the defaults, one at the
 /// other edges of the node's own numbers, one with the last address of loopback for its status server, one that would
 /// allow any but has no such server, one that lets a request end the node, one with seeds at the member's own address,
-/// one whose socket is bound elsewhere, and one whose address and port the program can't have.
+/// one whose socket is bound elsewhere, one whose address is to be found, and one whose address and port the program
+/// can't have.
 #[test]
 fn each_value(rt: HostRuntime) {
     let alone = Row {
@@ -273,9 +258,10 @@ fn each_value(rt: HostRuntime) {
         octets: [127, 0, 0, 1],
         port: 7946,
         dice: 2_189_494_717_179_526_441,
-        own: [30_000, 100],
+        own: [30_000, 100, 60_000],
         numbers: USUAL,
         seeds: &[],
+        hosts: &[],
         known: &[],
         asked: &[],
         status: (None, false),
@@ -283,13 +269,14 @@ fn each_value(rt: HostRuntime) {
         group: None,
         leave: true,
         bind: None,
+        auto: false,
     };
     let all = Row {
         text: ALL,
         octets: [10, 1, 2, 3],
         port: 7001,
         dice: 42,
-        own: [3_600_000, 0],
+        own: [3_600_000, 0, 1000],
         numbers: [200, 50, 0, 1, 2, 3, 4, 5, 6, 7, 3, 86_400_000, 0, 8],
         seeds: &[
             (b"c", [127, 0, 0, 1], 7002),
@@ -297,6 +284,7 @@ fn each_value(rt: HostRuntime) {
             (b"", [10, 1, 2, 3], 7001),
             (b"a", [1, 2, 3, 4], 5),
         ],
+        hosts: &[(b"d", "db.example", 1), (b"", "DB-2", 7946)],
         known: &[(b"c", [127, 0, 0, 1], 7002), (b"a", [1, 2, 3, 4], 5)],
         asked: &[
             ([127, 0, 0, 1], 7002),
@@ -334,13 +322,13 @@ fn each_value(rt: HostRuntime) {
             ..alone
         },
         Row {
-            text: "name = \"b\"\naddress = \"127.0.0.1\"\nport = 7946\ndice = 1\npull_ms = 30000\nstall_ms = 100",
+            text: "name = \"b\"\naddress = \"127.0.0.1\"\nport = 7946\ndice = 1\nstall_ms = 100\nresolve_ms = 60000",
             dice: 1,
             ..alone
         },
         Row {
-            text: "name = \"b\"\npull_ms = 0\nstall_ms = 60000",
-            own: [0, 60_000],
+            text: "name = \"b\"\npull_ms = 0\nstall_ms = 60000\nresolve_ms = 3600000",
+            own: [0, 60_000, 3_600_000],
             ..alone
         },
         Row {
@@ -372,6 +360,15 @@ fn each_value(rt: HostRuntime) {
         Row {
             text: "name = \"b\"\nbind = \"192.168.1.2:8000\"",
             bind: Some(Addr::v4([192, 168, 1, 2], 8000)),
+            ..alone
+        },
+        Row {
+            text: "name = \"b\"\naddress = \"auto\"\nport = 7001\nseeds = [\"db.example:7001\"]",
+            octets: [0, 0, 0, 0],
+            port: 7001,
+            dice: 816_382_846_399_997_258,
+            hosts: &[(b"", "db.example", 7001)],
+            auto: true,
             ..alone
         },
         Row {

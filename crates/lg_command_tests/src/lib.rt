@@ -6,6 +6,8 @@ mod addresses;
 #[cfg(test)]
 mod config;
 #[cfg(test)]
+mod finding;
+#[cfg(test)]
 mod launch;
 #[cfg(test)]
 mod limits;
@@ -21,6 +23,10 @@ mod pumping;
 mod readers;
 #[cfg(test)]
 mod replies;
+#[cfg(test)]
+mod resolving;
+#[cfg(test)]
+mod seed_rows;
 #[cfg(test)]
 mod streams;
 #[cfg(test)]

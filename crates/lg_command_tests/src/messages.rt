@@ -181,6 +181,11 @@ const FILES: &[(FileFault, &str)] = &[
         FileFault::Family,
         "a member with an IPv6 address has to have wire = 3",
     ),
+    (FileFault::Resolve, "resolve_ms has to be 1000 to 3600000"),
+    (
+        FileFault::Auto,
+        "a member with the address auto has to have a seed",
+    ),
 ];
 
 const READS: &[(ReadFault, &str)] = &[

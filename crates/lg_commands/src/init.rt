@@ -16,11 +16,13 @@ const INIT_TEXT: &str = "\
     # It has 1 to 32 bytes of A-Z a-z 0-9 . _ -\n\
     name = \"a\"\n\
     # The address of this member, and its UDP port. The others are told both, and send to them.\n\
+    # With \"auto\" the address is found when the node starts, by its seeds.\n\
     # address = \"127.0.0.1\"\n\
     # port = 7946\n\
     # Where the socket is bound, if that isn't the address that the others are told. An example:\n\
     # bind = \"0.0.0.0\"\n\
     # The members that this one asks when it starts, at most 16, each as \"10.0.0.8\" or \"b@10.0.0.8:7946\".\n\
+    # The name of a host may stand in place of the address, as \"b.example\".\n\
     # seeds = []\n\
     # In which version packets are written. Members that don't read version 3 drop those of version 3.\n\
     wire = 3\n\
@@ -68,6 +70,8 @@ const INIT_TEXT: &str = "\
     # pull_ms = 30000\n\
     # By how many milliseconds the clock may pass the last turn of either loop. 0 turns this off.\n\
     # stall_ms = 100\n\
+    # How many milliseconds pass from one resolving of the hosts among the seeds to the next.\n\
+    # resolve_ms = 60000\n\
     # Where the random choices start. By default it is made of name, address and port. An example:\n\
     # dice = 7\n";
 

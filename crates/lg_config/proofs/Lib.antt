@@ -1,3 +1,4 @@
+pub mod HostLaws
 pub mod KeyLaws
 pub mod OptionLaws
 pub mod ReasonLaws

@@ -1,7 +1,7 @@
 -- What holds of each configuration that a document means.
-use Rattle.std.proofs.Common.{◌≡◌, ℕ, Bool, true, false, if◌then◌else◌, List, nat_lt, Option, Some, None, Result, Ok, Err, IfOk, refl}
+use Rattle.std.proofs.Common.{◌≡◌, ℕ, Bool, true, false, if◌then◌else◌, List, Option, Some, None, Result, Ok, Err, IfOk, refl, ◌∙◌}
 use Rattle.lg_rules.specs.declared.addr.Addr.{Addr}
-use Rattle.lg_timing.specs.Meaning.Bounds.{most_seeds}
+use Rattle.lg_rules.specs.declared.addr.Ip.{Ip}
 use Rattle.lg_timing.specs.Meaning.Config.{check_of, IsChecked}
 use Rattle.lg_timing.specs.declared.config.ConfigFault.{ConfigFault}
 use Rattle.toml.specs.Data.{Members}
@@ -9,9 +9,10 @@ use Rattle.lg_config.specs.declared.fault.FileFault.{FileFault}
 use Rattle.lg_config.specs.declared.fault.FileFault.TheVariants as fault
 use Rattle.lg_config.specs.declared.node.NodeConfig.{NodeConfig}
 use Rattle.lg_config.specs.declared.node_keys.NodeKey.{NodeKey}
-use Rattle.lg_config.specs.Meaning.Answer.{and_bind, and_group, and_key_file, and_late, and_leave, and_status, and_told, fault_of_many, is_late, late_meaning_of, meaning_of, unless_broken, unless_config, unless_late, unless_many, unless_node}
+use Rattle.lg_config.specs.Meaning.Answer.{and_bind, and_findable, and_group, and_key_file, and_late, and_leave, and_status, and_told, fault_of_seeds, go_together, is_late, late_meaning_of, meaning_of, right_meaning_of, unless_apart, unless_broken, unless_config, unless_late, unless_node}
 use Rattle.lg_config.specs.Meaning.Binding.{bind_in, with_bind}
 use Rattle.lg_config.specs.Meaning.Families.{tells_own, unless_untold}
+use Rattle.lg_config.specs.Meaning.Finding.{is_unfindable, unless_unfindable, with_own_ip}
 use Rattle.lg_config.specs.Meaning.Groups.{group_in, with_group}
 use Rattle.lg_config.specs.Meaning.KeyFiles.{key_file_in, with_key_file}
 use Rattle.lg_config.specs.Meaning.Keys.{are_right_keys}
@@ -43,7 +44,7 @@ and_leave-kept P same m (Err found) holds = tt
 and_leave-kept P same m (Ok node) holds = leave-kept P same node (leave_in m) holds
 
 -- and it is kept whether packets can tell the address or not
-told-kept : (P : NodeConfig → Type 0) (node : NodeConfig) → P node → IfOk (unless_untold node) P
+pub told-kept : (P : NodeConfig → Type 0) (node : NodeConfig) → P node → IfOk (unless_untold node) P
 told-kept P node holds = step (tells_own node.config)
   where
     step : (told : Bool) → IfOk (if told then Ok node else Err fault.Family) P
@@ -53,6 +54,36 @@ told-kept P node holds = step (tells_own node.config)
 and_told-kept : (P : NodeConfig → Type 0) (r : Result NodeConfig FileFault) → IfOk r P → IfOk (and_told r) P
 and_told-kept P (Err found) holds = tt
 and_told-kept P (Ok node) holds = told-kept P node holds
+
+-- and whether that is to be found without seeds or not
+findable-kept : (P : NodeConfig → Type 0) (node : NodeConfig) → P node → IfOk (unless_unfindable node) P
+findable-kept P node holds = step (is_unfindable node)
+  where
+    step : (unfindable : Bool) → IfOk (if unfindable then Err fault.Auto else Ok node) P
+    step true = tt
+    step false = holds
+
+and_findable-kept : (P : NodeConfig → Type 0) (r : Result NodeConfig FileFault) → IfOk r P → IfOk (and_findable r) P
+and_findable-kept P (Err found) holds = tt
+and_findable-kept P (Ok node) holds = findable-kept P node holds
+
+-- so it is kept by all that is judged behind the check
+right-kept : (P : NodeConfig → Type 0) → ((node : NodeConfig) (bind : Option Addr) → P node → P (record node { bind = bind }))
+    → ((node : NodeConfig) (leave : Bool) → P node → P (record node { leave = leave }))
+    → (m : Members) → IfOk (late_meaning_of m) P → IfOk (right_meaning_of m) P
+right-kept P bound left m holds =
+    and_findable-kept P (and_told (and_bind m (and_leave m (late_meaning_of m))))
+    (and_told-kept P (and_bind m (and_leave m (late_meaning_of m)))
+    (and_bind-kept P bound m (and_leave m (late_meaning_of m)) (and_leave-kept P left m (late_meaning_of m) holds)))
+
+if_right-kept : (P : NodeConfig → Type 0) (right : Bool) (r : Result NodeConfig FileFault) → IfOk r P → IfOk (if right then r else Err fault.Key) P
+if_right-kept P true r holds = holds
+if_right-kept P false r holds = tt
+
+meaning-kept : (P : NodeConfig → Type 0) → ((node : NodeConfig) (bind : Option Addr) → P node → P (record node { bind = bind }))
+    → ((node : NodeConfig) (leave : Bool) → P node → P (record node { leave = leave }))
+    → (m : Members) → IfOk (late_meaning_of m) P → IfOk (meaning_of m) P
+meaning-kept P bound left m holds = if_right-kept P (are_right_keys m) (right_meaning_of m) (right-kept P bound left m holds)
 
 -- what a document means, but for what is read later
 abbrev judged_of : Members → Result NodeConfig FileFault
@@ -75,16 +106,16 @@ within-checked node (Err broken) = step (is_late broken)
     step true = within-judged node (own_broken node) refl
     step false = tt
 
-within-many : (count : ℕ) (node : NodeConfig) → IfOk (unless_many count node) HasWithin
-within-many count node = step (nat_lt most_seeds count)
+within-apart : (count : ℕ) (node : NodeConfig) → IfOk (unless_apart count node) HasWithin
+within-apart count node = step (go_together count node)
   where
-    step : (many : Bool) → IfOk (if many then Err (fault.Config (fault_of_many (check_of node.config))) else unless_config node (check_of node.config)) HasWithin
-    step true = tt
-    step false = within-checked node (check_of node.config)
+    step : (together : Bool) → IfOk (if together then unless_config node (check_of node.config) else Err (fault.Config (fault_of_seeds (check_of node.config)))) HasWithin
+    step true = within-checked node (check_of node.config)
+    step false = tt
 
 within-node : (count : ℕ) (settings : Option NodeConfig) → IfOk (unless_node count settings) HasWithin
 within-node count None = tt
-within-node count (Some node) = within-many count node
+within-node count (Some node) = within-apart count node
 
 within-open : (node : NodeConfig) (status : Option Addr) (is_open listens : Bool) → HasWithin node
     → IfOk (if listens then Ok (record node { status = status; status_open = is_open }) else Err fault.StatusNotLoopback) HasWithin
@@ -125,20 +156,13 @@ within-and_group : (m : Members) (r : Result NodeConfig FileFault) → IfOk r Ha
 within-and_group m (Err found) within = tt
 within-and_group m (Ok node) within = within-group node (group_in m) within
 
-within-if_right : (m : Members) (right : Bool) (r : Result NodeConfig FileFault) → IfOk r HasWithin → IfOk (if right then r else Err fault.Key) HasWithin
-within-if_right m true r within = within
-within-if_right m false r within = tt
-
 within-late_meaning : (m : Members) → IfOk (late_meaning_of m) HasWithin
 within-late_meaning m =
     within-and_late _ (within-and_group m _ (within-and_late _ (within-and_key_file m _ (within-and_status m _ (within-node (item_count (seeds_at m)) (settings_of m))))))
 
 pub within-meaning : (m : Members) → IfOk (meaning_of m) HasWithin
 within-meaning m =
-    within-if_right m (are_right_keys m) (and_told (and_bind m (and_leave m (late_meaning_of m))))
-    (and_told-kept HasWithin (and_bind m (and_leave m (late_meaning_of m)))
-    (and_bind-kept HasWithin (λ node bind within. within) m (and_leave m (late_meaning_of m))
-    (and_leave-kept HasWithin (λ node leave within. within) m (late_meaning_of m) (within-late_meaning m))))
+    meaning-kept HasWithin (λ node bind within. within) (λ node leave within. within) m (within-late_meaning m)
 
 -- ---- and the status server of a configuration that is given may listen where it is to
 
@@ -184,24 +208,17 @@ guarded-and_group : (m : Members) (r : Result NodeConfig FileFault) → IfOk r I
 guarded-and_group m (Err found) guarded = tt
 guarded-and_group m (Ok node) guarded = guarded-group node (group_in m) guarded
 
-guarded-if_right : (right : Bool) (r : Result NodeConfig FileFault) → IfOk r IsGuarded → IfOk (if right then r else Err fault.Key) IsGuarded
-guarded-if_right true r guarded = guarded
-guarded-if_right false r guarded = tt
-
 guarded-late_meaning : (m : Members) → IfOk (late_meaning_of m) IsGuarded
 guarded-late_meaning m =
     guarded-and_late _ (guarded-and_group m _ (guarded-and_late _ (guarded-and_key_file m _ (guarded-and_status m (judged_of m)))))
 
 pub guarded-meaning : (m : Members) → IfOk (meaning_of m) IsGuarded
 guarded-meaning m =
-    guarded-if_right (are_right_keys m) (and_told (and_bind m (and_leave m (late_meaning_of m))))
-    (and_told-kept IsGuarded (and_bind m (and_leave m (late_meaning_of m)))
-    (and_bind-kept IsGuarded (λ node bind guarded. guarded) m (and_leave m (late_meaning_of m))
-    (and_leave-kept IsGuarded (λ node leave guarded. guarded) m (late_meaning_of m) (guarded-late_meaning m))))
+    meaning-kept IsGuarded (λ node bind guarded. guarded) (λ node leave guarded. guarded) m (guarded-late_meaning m)
 
 -- ---- and the member's configuration passes its check
 
-abbrev HasPassed : NodeConfig → Type 0
+abbrev pub HasPassed : NodeConfig → Type 0
 HasPassed node = IsChecked node.config
 
 passed-unless_late : (node : NodeConfig) (r : Result (Unit {0}) ConfigFault) → check_of node.config ≡ r → IfOk (unless_late node r) HasPassed
@@ -212,14 +229,16 @@ passed-and_late : (r : Result NodeConfig FileFault) → IfOk (and_late r) HasPas
 passed-and_late (Err found) = tt
 passed-and_late (Ok node) = passed-unless_late node (check_of node.config) refl
 
-passed-if_right : (right : Bool) (r : Result NodeConfig FileFault) → IfOk r HasPassed → IfOk (if right then r else Err fault.Key) HasPassed
-passed-if_right true r passed = passed
-passed-if_right false r passed = tt
-
 pub passed-meaning : (m : Members) → IfOk (meaning_of m) HasPassed
 passed-meaning m =
-    passed-if_right (are_right_keys m) (and_told (and_bind m (and_leave m (late_meaning_of m))))
-    (and_told-kept HasPassed (and_bind m (and_leave m (late_meaning_of m)))
-    (and_bind-kept HasPassed (λ node bind passed. passed) m (and_leave m (late_meaning_of m))
-    (and_leave-kept HasPassed (λ node leave passed. passed) m (late_meaning_of m)
-    (passed-and_late (and_group m (and_late (and_key_file m (and_status m (judged_of m)))))))))
+    meaning-kept HasPassed (λ node bind passed. passed) (λ node leave passed. passed) m
+    (passed-and_late (and_group m (and_late (and_key_file m (and_status m (judged_of m))))))
+
+-- ---- and it does with another IP address of the member's own
+
+same-checked : (ip : Ip) (node : NodeConfig) → check_of (with_own_ip ip node).config ≡ check_of node.config
+unfolding check_of
+same-checked ip node = refl
+
+pub passed-own_ip : (ip : Ip) (node : NodeConfig) → HasPassed node → HasPassed (with_own_ip ip node)
+passed-own_ip ip node passed = same-checked ip node ∙ passed

@@ -9,10 +9,14 @@ pub mod Examples
 pub mod Families
 pub mod FamilyExamples
 pub mod Faults
+pub mod Finding
+pub mod FindingExamples
 pub mod FormReasons
 pub mod GroupExamples
 pub mod GroupReasons
 pub mod Groups
+pub mod HostExamples
+pub mod Hosts
 pub mod KeyFiles
 pub mod KeyReasons
 pub mod Keys

@@ -8,7 +8,7 @@ ghost use Rattle.lg_config.specs.declared.fault.ReadFault.TheVariants.{File};
 
 use crate::document::MAX_FILE;
 use crate::key_file::MAX_PATH;
-use crate::node_keys::{MAX_PULL_MS, MAX_STALL_MS};
+use crate::node_keys::{MAX_PULL_MS, MAX_RESOLVE_MS, MAX_STALL_MS, MIN_RESOLVE_MS};
 use lg_timing::ConfigFault;
 use thiserror::Error;
 
@@ -56,10 +56,16 @@ pub enum FileFault {
     /// The member's own address is one of IPv6, and `wire` isn't 3.
     #[error("a member with an IPv6 address has to have wire = 3")]
     Family,
+    /// `resolve_ms` isn't 1,000 to 3,600,000.
+    #[error("resolve_ms has to be {least} to {most}", least = MIN_RESOLVE_MS, most = MAX_RESOLVE_MS)]
+    Resolve,
+    /// The member's own address is to be found, and there is no seed by which it could be.
+    #[error("a member with the address auto has to have a seed")]
+    Auto,
 }
 
 impl FileFault {
-    /// The number of the fault: that of [`ConfigFault::number`], or 12, 13, 14, 16 to 21 or 27 to 29 for the others.
+    /// The number of the fault: that of [`ConfigFault::number`], or 12, 13, 14, 16 to 21 or 27 to 31 for the others.
     pub fn number(self) -> u8
         ensures { result ≡ fault_number self }
     {
@@ -77,6 +83,8 @@ impl FileFault {
             FileFault::Leave => 27,
             FileFault::Bind => 28,
             FileFault::Family => 29,
+            FileFault::Resolve => 30,
+            FileFault::Auto => 31,
         }
     }
 }

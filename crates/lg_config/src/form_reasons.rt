@@ -4,20 +4,21 @@
 //! Tested in: `cases/config_reasons.case`.
 ghost use Rattle.std.specs.Prelude.{◌≡◌, IfOk, string_bytes};
 ghost use Rattle.toml.specs.View.{items_view, table_view};
-ghost use Rattle.lg_config.specs.Meaning.FormReasons.{shared_name, value_reason};
-ghost use Rattle.lg_timing.specs.Meaning.Config.{is_seed};
-ghost use Rattle.lg_config.specs.Meaning.FormReasons.{address_reason, bad_seed, few_seeds, few_seeds_reason};
+ghost use Rattle.lg_config.specs.Meaning.FormReasons.{value_reason};
+ghost use Rattle.lg_config.specs.Meaning.Seeds.{shared_name};
+ghost use Rattle.lg_config.specs.Meaning.FormReasons.{address_reason, bad_seed, few_names, few_seeds_reason};
 ghost use Rattle.lg_config.specs.Meaning.FormReasons.{many_seeds_reason, name_reason, seed_reason, seeds_reason};
 ghost use Rattle.lg_config.specs.Meaning.FormReasons.{key_file_reason, key_file_text};
 
 use crate::keys::KEY_FILE;
 use crate::lookup::{seeds_at, text_at};
+use crate::names::shared_name;
 use crate::quoting::quoted;
 use crate::ranges::{dice_reason, port_reason};
-use crate::seeds::{first_seeds, known_seeds, seed_of_value};
+use crate::seeds::{first_seeds, names_among, seed_of_value};
 use crate::settings::{address_text, dice_at, ip_at, name_at, name_text, port_at};
 use lg_rules::Name;
-use lg_timing::{MAX_SEEDS, Seed};
+use lg_timing::MAX_SEEDS;
 use std::alloc::{AllocError, Global};
 use toml::{Table, Value};
 
@@ -47,7 +48,7 @@ fn address_reason(alloc: Global, table: &Table) -> Result<String, AllocError>
 {
     let quote = quoted(alloc, address_text(table).as_bytes())?;
     format!(in alloc;
-        "address is {quote}, and has to be A.B.C.D, each from 0 to 255 without leading zeros, or IPv6\n"
+        "address is {quote}, and has to be A.B.C.D, each from 0 to 255 without leading zeros, or IPv6, or auto\n"
     )
 }
 
@@ -57,7 +58,7 @@ fn seed_reason(alloc: Global, table: &Table) -> Result<String, AllocError>
 {
     let quote = quoted(alloc, bad_seed(seeds_at(table)).as_bytes())?;
     format!(in alloc;
-        "the seed {quote} has to be NAME@A.B.C.D:PORT, A.B.C.D:PORT or A.B.C.D, A to D without leading zeros, or IPv6\n"
+        "the seed {quote} has to be NAME@A.B.C.D:PORT, A.B.C.D:PORT or A.B.C.D, no leading zeros, IPv6 or a host\n"
     )
 }
 
@@ -96,29 +97,6 @@ pub(crate) fn key_file_reason(alloc: Global, table: &Table) -> Result<String, Al
     format!(in alloc; "key_file is {quote}, and has to have 1 to 255 bytes of printable ASCII\n")
 }
 
-/// Whether some seed has this name.
-fn is_seed(name: &Name, seeds: &[Seed]) -> bool
-    ensures { result ≡ is_seed name.now seeds.now }
-{
-    seeds.iter().any(|seed| seed.name == *name)
-}
-
-/// The name of the first of some seeds that a later one has too.
-fn shared_name(seeds: &[Seed]) -> Option<Name>
-    ensures { result ≡ shared_name seeds.now }
-{
-    match seeds {
-        [] => None,
-        [seed, others @ ..] => {
-            if is_seed(&seed.name, others) {
-                Some(seed.name)
-            } else {
-                shared_name(others)
-            }
-        }
-    }
-}
-
 /// The reason of a few seeds that don't go together, by a name that two of them have.
 fn few_seeds_reason(alloc: Global, shared: Option<Name>) -> Result<String, AllocError>
     ensures { IfOk result (λ text. string_bytes text ≡ few_seeds_reason shared) }
@@ -139,12 +117,12 @@ fn many_seeds_reason(alloc: Global, count: usize) -> Result<String, AllocError>
 
 /// The name that two of the first 16 seeds have that some values spell.
 fn name_shared_by(values: &[Value]) -> Option<Name>
-    ensures { result ≡ shared_name (few_seeds (items_view values.now)) }
+    ensures { result ≡ shared_name (few_names (items_view values.now)) }
 {
     match first_seeds(values) {
         Some(seeds) => {
-            let known = known_seeds(seeds.as_slice());
-            shared_name(known.as_slice())
+            let names = names_among(seeds.as_slice());
+            shared_name(names.as_slice())
         }
         None => None,
     }

@@ -14,13 +14,14 @@ use strsim::generic_levenshtein;
 const MAX_EDITS: usize = 3;
 
 /// All known keys, in the order in which `docs/FORMATS.md` has them.
-pub const KNOWN_KEYS: [&str; 27] = [
+pub const KNOWN_KEYS: [&str; 28] = [
     "name",
     "address",
     "port",
     "dice",
     "pull_ms",
     "stall_ms",
+    "resolve_ms",
     "status",
     "status_open",
     "leave",

@@ -6,26 +6,29 @@ ghost use Rattle.std.specs.Prelude.{◌≡◌, IfOk, None, true};
 ghost use Rattle.toml.specs.View.{table_view};
 ghost use Rattle.lg_timing.specs.Meaning.Config.{IsChecked};
 ghost use Rattle.lg_timing.specs.Meaning.Config.{check_of};
-ghost use Rattle.lg_config.specs.Meaning.Answer.{fault_of_many, is_late, meaning_of, unless_broken, unless_config};
-ghost use Rattle.lg_config.specs.Meaning.Answer.{unless_late, unless_many, unless_node, IsAnswer};
+ghost use Rattle.lg_config.specs.Meaning.Answer.{fault_of_seeds, go_together, is_late, meaning_of, unless_apart};
+ghost use Rattle.lg_config.specs.Meaning.Answer.{unless_broken, unless_config, unless_late, unless_node, IsAnswer};
 ghost use Rattle.lg_config.specs.Meaning.Settings.{item_count, seeds_at, settings_of};
 
 use crate::bind::with_bind;
 use crate::document::table_with;
 use crate::family::unless_untold;
 use crate::fault::{FileFault, ReadFault};
+use crate::finding::{unless_unfindable, with_own_ip};
 use crate::given::Given;
 use crate::group::with_group;
+use crate::host::Host;
 use crate::key_file::{FilePath, with_key_file};
 use crate::keys::are_right_keys;
 use crate::leave::with_leave;
 use crate::lookup::seeds_at;
+use crate::names::have_good_names;
 use crate::node_keys::{NODE_KEYS, NodeKey};
-use crate::seeds::{SeedPlace, asked_among};
+use crate::seeds::{SeedPlace, asked_among, hosts_among};
 use crate::settings::settings_in;
 use crate::status::with_status;
 use arrayvec::ArrayVec;
-use lg_rules::Addr;
+use lg_rules::{Addr, Ip};
 use lg_timing::{Config, ConfigFault, MAX_SEEDS};
 use std::alloc::Global;
 use toml::Table;
@@ -43,6 +46,11 @@ pub struct NodeConfig {
     /// The most by which the node's clock passes a loop's last turn, in milliseconds: 0 to 60,000. With 0 its clock is
     /// the machine's.
     pub stall_ms: u64,
+    /// How long it is from one resolving of the hosts among the seeds to the next, in milliseconds: 1,000 to 3,600,000.
+    /// If no seed is at a host, this means nothing.
+    pub resolve_ms: u64,
+    /// Whether the member's IP address is found when the node starts. Until then it is 0.0.0.0 in the configuration.
+    pub auto: bool,
     /// Where the node's status server listens. None if the node has no such server.
     pub status: Option<Addr>,
     /// Whether the status server may listen at an address that isn't loopback (127.0.0.0/8 or ::1). Its answers have no
@@ -55,14 +63,23 @@ pub struct NodeConfig {
     /// Where its socket for datagrams is bound, if its file says it. None if it is bound to the member's address and
     /// port, which the others are told.
     pub bind: Option<Addr>,
-    /// The seeds, in the order of the file. Those that have names are the seeds of the configuration, too.
+    /// The seeds, in the order of the file. Those that have names and are at addresses are the seeds of the
+    /// configuration, too. All names differ, and none is the member's own.
     pub seeds: ArrayVec<SeedPlace, MAX_SEEDS>,
 }
 
-/// The fault of a table with too many seeds, given what the check of a configuration with the first of them found. The
-/// faults with lesser numbers than that of the seeds don't depend on the seeds.
-fn fault_of_many(checked: Result<(), ConfigFault>) -> ConfigFault
-    ensures { result ≡ fault_of_many checked }
+/// Whether the seeds of a table go together, if there are so many: at most 16, with different names, none of them the
+/// member's own.
+fn go_together(node: &NodeConfig, count: usize) -> bool
+    ensures { result ≡ go_together count node.now }
+{
+    count <= MAX_SEEDS && have_good_names(&node.config.name, node.seeds.as_slice())
+}
+
+/// The fault of a table whose seeds don't go together, given what the check of a configuration with the first of them
+/// found. The faults with lesser numbers than that of the seeds don't depend on the seeds.
+fn fault_of_seeds(checked: Result<(), ConfigFault>) -> ConfigFault
+    ensures { result ≡ fault_of_seeds checked }
 {
     match checked {
         Err(fault) if fault.number() < ConfigFault::Seeds.number() => fault,
@@ -80,8 +97,8 @@ fn unless_broken(node: NodeConfig, broken: Option<NodeKey>) -> Result<NodeConfig
     }
 }
 
-/// Whether a fault of a member's configuration counts only if nothing else is wrong: if its number is greater than
-/// those of the node's own faults.
+/// Whether a fault of a member's configuration counts only if nothing else is wrong: if its number is greater than that
+/// of the key file's path.
 fn is_late(fault: ConfigFault) -> bool
     ensures { result ≡ is_late fault }
 {
@@ -116,14 +133,15 @@ fn unless_late(node: NodeConfig) -> Result<NodeConfig, FileFault>
 }
 
 /// The settings of a table with so many seeds, or their fault.
-fn unless_many(node: NodeConfig, count: usize) -> Result<NodeConfig, FileFault>
-    ensures { result ≡ unless_many count node }
+fn unless_apart(node: NodeConfig, count: usize) -> Result<NodeConfig, FileFault>
+    ensures { result ≡ unless_apart count node }
 {
     let checked = node.config.check();
-    if count > MAX_SEEDS {
-        return Err(FileFault::Config(fault_of_many(checked)));
+    if go_together(&node, count) {
+        unless_config(node, checked)
+    } else {
+        Err(FileFault::Config(fault_of_seeds(checked)))
     }
-    unless_config(node, checked)
 }
 
 /// The settings of a table whose keys are right, or their fault. The status server, the path of the key file, the
@@ -132,7 +150,7 @@ fn judged_in(table: &Table) -> Result<NodeConfig, FileFault>
     ensures { result ≡ unless_node (item_count (seeds_at (table_view table.now))) (settings_of (table_view table.now)) }
 {
     let node = settings_in(table).ok_or(FileFault::Value)?;
-    unless_many(node, seeds_at(table).len())
+    unless_apart(node, seeds_at(table).len())
 }
 
 /// The configuration that a table means, or its fault.
@@ -150,14 +168,16 @@ fn meaning_in(table: &Table) -> Result<NodeConfig, FileFault>
     let node = unless_late(node)?;
     let node = with_leave(table, node)?;
     let node = with_bind(table, node)?;
-    unless_untold(node)
+    let node = unless_untold(node)?;
+    unless_unfindable(node)
 }
 
 impl NodeConfig {
     ghost use Rattle.lg_config.specs.Meaning.Binding.{bound_at};
+    ghost use Rattle.lg_config.specs.Meaning.Finding.{with_ip};
     ghost use Rattle.lg_config.specs.Meaning.NodeKeys.{own_broken, own_number};
     ghost use Rattle.lg_config.specs.Meaning.Options.{options_of};
-    ghost use Rattle.lg_config.specs.Meaning.Seeds.{asked_addrs};
+    ghost use Rattle.lg_config.specs.Meaning.Seeds.{asked_addrs, seed_hosts};
     ghost use Rattle.lg_config.specs.Meaning.Status.{may_listen};
 
     /// The number of a key of the node's own.
@@ -167,22 +187,41 @@ impl NodeConfig {
         match key {
             NodeKey::PullMs => self.pull_ms,
             NodeKey::StallMs => self.stall_ms,
+            NodeKey::ResolveMs => self.resolve_ms,
         }
     }
 
     /// Where the node's socket for datagrams is bound: where its file says, or else at the member's address and port.
+    /// An address that is to be found has to be known by then ([`with_ip`](NodeConfig::with_ip)).
     pub fn bound_at(&self) -> Addr
         ensures { result ≡ bound_at self.now }
     {
         self.bind.unwrap_or(self.config.addr)
     }
 
-    /// The addresses that the node asks for a table, in the order of its file: those of the seeds, but for the member's
-    /// own address and port, so that all members of a group can have the same seeds.
+    /// The addresses that the node asks for a table, in the order of its file: those of the seeds at addresses, but for
+    /// the member's own address and port, so that all members of a group can have the same seeds.
     pub fn asked(&self) -> ArrayVec<Addr, MAX_SEEDS>
         ensures { result.items ≡ asked_addrs self.now.config.addr self.now.seeds.items }
     {
         asked_among(&self.config.addr, self.seeds.as_slice())
+    }
+
+    /// The hosts among the seeds, in the order of the file, each with its port.
+    pub fn hosts(&self) -> ArrayVec<Host, MAX_SEEDS>
+        ensures { result.items ≡ seed_hosts self.now.seeds.items }
+    {
+        hosts_among(self.seeds.as_slice())
+    }
+
+    /// The same configuration with this IP address of the member's own, once it is found. The dice stay as they are.
+    ///
+    /// The error is [`FileFault::Family`]: the address is one of IPv6, and `wire` isn't 3.
+    pub fn with_ip(self, ip: Ip) -> Result<NodeConfig, FileFault>
+        ensures settings { result ≡ with_ip ip self }
+        ensures checked { IsChecked self.config → IfOk result (λ node. IsChecked node.config) }
+    {
+        unless_untold(with_own_ip(self, ip))
     }
 
     /// The first key of the node's own whose number is out of its range, if there is one.
@@ -203,10 +242,11 @@ impl NodeConfig {
     /// [`Config`] but for `first`, and those of [`NodeKey`], by the names of their fields, `status`, `status_open`,
     /// `leave`, `bind`, `key_file` and `group`. The error is [`ReadFault::File`] with the first of these:
     /// [`FileFault::Syntax`], [`FileFault::Key`], [`FileFault::Value`], [`FileFault::Config`], [`FileFault::Pull`],
-    /// [`FileFault::Stall`], [`FileFault::Status`], [`FileFault::StatusOpen`], [`FileFault::StatusNotLoopback`] and
-    /// [`FileFault::KeyFile`]. A [`FileFault::Config`] whose number is greater than that of `KeyFile` comes behind all
-    /// of these, and [`FileFault::Leave`], [`FileFault::Bind`] and [`FileFault::Family`] come last. Or the error is
-    /// [`ReadFault::NoMemory`], and then nothing is known of the file.
+    /// [`FileFault::Stall`], [`FileFault::Resolve`], [`FileFault::Status`], [`FileFault::StatusOpen`],
+    /// [`FileFault::StatusNotLoopback`] and [`FileFault::KeyFile`]. A [`FileFault::Config`] whose number is greater
+    /// than that of `KeyFile` comes behind all of these, and [`FileFault::Leave`], [`FileFault::Bind`],
+    /// [`FileFault::Family`] and [`FileFault::Auto`] come last. Or the error is [`ReadFault::NoMemory`], and then
+    /// nothing is known of the file.
     ///
     /// Memory is allocated for the table that both spell, and is freed again. For a file of more than
     /// [`MAX_FILE`](crate::MAX_FILE) bytes none is allocated.

@@ -18,6 +18,14 @@ pub const MAX_PULL_MS: u64 = 3_600_000;
 /// choice).
 pub const MAX_STALL_MS: u64 = 60_000;
 
+/// The shortest time from one resolving of the hosts among the seeds to the next, in milliseconds: 1,000 (this
+/// project's choice).
+pub const MIN_RESOLVE_MS: u64 = 1000;
+
+/// The longest time from one resolving of the hosts among the seeds to the next, in milliseconds: 3,600,000, an hour
+/// (this project's choice).
+pub const MAX_RESOLVE_MS: u64 = 3_600_000;
+
 /// The key of a number of the node's own: which field of [`NodeConfig`](crate::NodeConfig) has the number.
 #[derive(Clone, Copy, Debug, PartialEq, Eq)]
 pub enum NodeKey {
@@ -25,10 +33,12 @@ pub enum NodeKey {
     PullMs,
     /// `stall_ms`.
     StallMs,
+    /// `resolve_ms`.
+    ResolveMs,
 }
 
 /// All keys of the node's own, in the order of the numbers of their faults. It is the order in which a file is judged.
-pub const NODE_KEYS: [NodeKey; 2] = [NodeKey::PullMs, NodeKey::StallMs];
+pub const NODE_KEYS: [NodeKey; 3] = [NodeKey::PullMs, NodeKey::StallMs, NodeKey::ResolveMs];
 
 /// What the table says of a key's number.
 #[derive(Clone, Copy, Debug, PartialEq, Eq)]
@@ -51,6 +61,7 @@ impl NodeKey {
         match self {
             NodeKey::PullMs => "pull_ms",
             NodeKey::StallMs => "stall_ms",
+            NodeKey::ResolveMs => "resolve_ms",
         }
     }
 
@@ -70,6 +81,12 @@ impl NodeKey {
                 most: MAX_STALL_MS,
                 default: 100,
                 fault: FileFault::Stall,
+            },
+            NodeKey::ResolveMs => NodeKeyRow {
+                least: MIN_RESOLVE_MS,
+                most: MAX_RESOLVE_MS,
+                default: 60_000,
+                fault: FileFault::Resolve,
             },
         }
     }

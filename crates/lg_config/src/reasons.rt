@@ -13,6 +13,7 @@ use crate::bind_reasons::bind_reason;
 use crate::document::{Unread, table_with};
 use crate::family::family_reason;
 use crate::fault::FileFault;
+use crate::finding::auto_reason;
 use crate::form_reasons::{key_file_reason, seeds_reason, value_reason};
 use crate::given::Given;
 use crate::group_reasons::group_reason;
@@ -79,6 +80,8 @@ fn reason_of(alloc: Global, fault: FileFault, table: &Table) -> Result<String, A
         FileFault::Leave => leave_reason(alloc, table),
         FileFault::Bind => bind_reason(alloc, table),
         FileFault::Family => family_reason(alloc, table),
+        FileFault::Resolve => own_reason(alloc, NodeKey::ResolveMs, table),
+        FileFault::Auto => String::from_str(alloc, auto_reason()),
     }
 }
 

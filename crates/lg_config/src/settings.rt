@@ -5,7 +5,7 @@
 ghost use Rattle.std.specs.Prelude.{◌≡◌};
 ghost use Rattle.toml.specs.View.{table_view};
 ghost use Rattle.lg_config.specs.Meaning.Settings.{addr_in, address_text, dice_in, name_in, name_text};
-ghost use Rattle.lg_config.specs.Meaning.Settings.{ip_of_member, own_number_in, port_of_member, settings_of};
+ghost use Rattle.lg_config.specs.Meaning.Settings.{ip_of_member, is_auto, own_number_in, port_of_member, settings_of};
 ghost use Rattle.lg_config.specs.Meaning.Settings.{with_keys, with_numbers};
 
 use crate::dice::own_dice;
@@ -25,6 +25,9 @@ pub const DEFAULT_ADDRESS: &str = "127.0.0.1";
 /// The port of a member, if its file doesn't give one, and of a seed without a name that gives none (this project's
 /// choice).
 pub const DEFAULT_PORT: u16 = 7946;
+
+/// The word for an address that is to be found.
+const AUTO: &str = "auto";
 
 /// The text of the member's name.
 pub(crate) fn name_text(table: &Table) -> &str
@@ -48,11 +51,22 @@ pub(crate) fn name_at(table: &Table) -> Option<Name>
     name_in(name_text(table).as_bytes())
 }
 
-/// The member's IP address. None if the address of the table is out of its form.
+/// Whether the member's address is to be found when its node starts.
+fn is_auto(table: &Table) -> bool
+    ensures { result ≡ is_auto (table_view table.now) }
+{
+    address_text(table) == AUTO
+}
+
+/// The member's IP address: 0.0.0.0 if it is to be found. None if the address of the table is out of its form.
 pub(crate) fn ip_at(table: &Table) -> Option<Ip>
     ensures { result ≡ ip_of_member (table_view table.now) }
 {
-    ip_in(address_text(table))
+    if is_auto(table) {
+        Some(Ip::V4([0, 0, 0, 0]))
+    } else {
+        ip_in(address_text(table))
+    }
 }
 
 /// The member's port. None if the port of the table isn't 1 to 65535.
@@ -133,6 +147,8 @@ pub(crate) fn settings_in(table: &Table) -> Option<NodeConfig>
         dice,
         pull_ms: own_number_at(table, NodeKey::PullMs),
         stall_ms: own_number_at(table, NodeKey::StallMs),
+        resolve_ms: own_number_at(table, NodeKey::ResolveMs),
+        auto: is_auto(table),
         status: None,
         status_open: false,
         key_file: None,

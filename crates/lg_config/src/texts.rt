@@ -1,4 +1,4 @@
-//! Reads the texts of a file: names, addresses, ports and seeds.
+//! Reads the texts of a file: names, addresses, ports, hosts and seeds.
 //!
 //! Defined in: `specs/Meaning/Texts.antt`, `lg_text/specs/Meaning/Cutting.antt`, `IpReading.antt`, `Names.antt`,
 //! `Numbers.antt`, `Octets.antt`.
@@ -8,8 +8,10 @@ ghost use Rattle.std.specs.Option.{option_map};
 ghost use Rattle.lg_text.specs.Meaning.IpReading.{ipv6_of};
 ghost use Rattle.lg_config.specs.Meaning.Texts.{address_of, address_with_port, ipv4_place, ipv4_with_port, ipv6_place};
 ghost use Rattle.lg_config.specs.Meaning.Texts.{ipv6_with_port, named_seed, nameless_seed, port_or, rest_behind};
+ghost use Rattle.lg_config.specs.Meaning.Texts.{host_with_its_port, host_with_port, place_of, place_with_port};
 ghost use Rattle.lg_config.specs.Meaning.Texts.{seed_of_text};
 
+use crate::host::{Host, HostName, Place};
 use crate::seeds::SeedPlace;
 use crate::settings::DEFAULT_PORT;
 use lg_rules::Addr;
@@ -112,24 +114,72 @@ pub(crate) fn address_with_port(text: &[u8], usual: u16) -> Option<Addr>
     }
 }
 
-/// The seed with a name and an address with its port that two texts spell.
-fn named_seed(name: &[u8], addr: &[u8]) -> Option<SeedPlace>
-    ensures { result ≡ named_seed name.now addr.now }
+/// The host with its port that a text spells: HOST:PORT.
+fn host_with_its_port(text: &[u8]) -> Option<Host>
+    ensures { result ≡ host_with_its_port text.now }
+{
+    let (name, port) = cut_at(text, b':');
+    let name = HostName::of(name)?;
+    let port = port_in(port?)?;
+    Some(Host { name, port })
+}
+
+/// The host with its port that a text spells: HOST:PORT, or HOST, which has this port.
+fn host_with_port(text: &[u8], usual: u16) -> Option<Host>
+    ensures { result ≡ host_with_port usual text.now }
+{
+    let (name, port) = cut_at(text, b':');
+    let name = HostName::of(name)?;
+    let port = port_or(port, usual)?;
+    Some(Host { name, port })
+}
+
+/// The place with its port that a text spells: an address, or else a host.
+#[tactic(auto, unfolding(crate::specs::Meaning::Texts::place_of))]
+fn place_in(text: &[u8]) -> Option<Place>
+    ensures { result ≡ place_of text.now }
+{
+    if let Some(addr) = address_in(text) {
+        return Some(Place::Addr(addr));
+    }
+    match host_with_its_port(text) {
+        Some(host) => Some(Place::Host(host)),
+        None => None,
+    }
+}
+
+/// The place that a text spells: an address, or else a host, with its port, or alone, and then it has this port.
+#[tactic(auto, unfolding(crate::specs::Meaning::Texts::place_with_port))]
+fn place_with_port(text: &[u8], usual: u16) -> Option<Place>
+    ensures { result ≡ place_with_port usual text.now }
+{
+    if let Some(addr) = address_with_port(text, usual) {
+        return Some(Place::Addr(addr));
+    }
+    match host_with_port(text, usual) {
+        Some(host) => Some(Place::Host(host)),
+        None => None,
+    }
+}
+
+/// The seed with a name and a place with its port that two texts spell.
+fn named_seed(name: &[u8], place: &[u8]) -> Option<SeedPlace>
+    ensures { result ≡ named_seed name.now place.now }
 {
     let name = name_in(name)?;
-    let addr = address_in(addr)?;
+    let place = place_in(place)?;
     Some(SeedPlace {
         name: Some(name),
-        addr,
+        place,
     })
 }
 
-/// The seed without a name that a text spells: an address with its port, or alone, and then it has the default port.
+/// The seed without a name that a text spells: a place with its port, or alone, and then it has the default port.
 fn nameless_seed(text: &[u8]) -> Option<SeedPlace>
     ensures { result ≡ nameless_seed text.now }
 {
-    let addr = address_with_port(text, DEFAULT_PORT)?;
-    Some(SeedPlace { name: None, addr })
+    let place = place_with_port(text, DEFAULT_PORT)?;
+    Some(SeedPlace { name: None, place })
 }
 
 /// The seed that a text spells. It has a name if it has an `@`.
@@ -137,9 +187,9 @@ fn nameless_seed(text: &[u8]) -> Option<SeedPlace>
 pub(crate) fn seed_in(text: &[u8]) -> Option<SeedPlace>
     ensures { result ≡ seed_of_text text.now }
 {
-    let (name, addr) = cut_at(text, b'@');
-    match addr {
-        Some(addr) => named_seed(name, addr),
+    let (name, place) = cut_at(text, b'@');
+    match place {
+        Some(place) => named_seed(name, place),
         None => nameless_seed(text),
     }
 }

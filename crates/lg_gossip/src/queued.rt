@@ -7,7 +7,7 @@ ghost use Rattle.std.specs.Prelude.{◌≡◌};
 use crate::limit::MAX_TIMES_SENT;
 use lg_rules::{Claim, Keyed, Name, Version};
 
-/// A claim that waits to be sent, and the number of packets that took it from the queue.
+/// A queued claim, and how many packets took it. It stays in the queue.
 #[derive(Clone, Copy, Debug, Default, PartialEq, Eq)]
 pub struct Queued {
     /// The claim.

@@ -7,7 +7,7 @@ use Rattle.lg_turns.specs.declared.ending.Why.{Why}
 use Rattle.lg_turns.specs.declared.ending.Why.TheVariants.{Stopped, Ousted, LinkFailed, Refused, ReadBound}
 use Rattle.lg_turns.specs.declared.plan.Plan.{Plan}
 use Rattle.lg_turns.specs.Meaning.Turns.{Turn}
-use Rattle.lg_turns.specs.Meaning.Turns.Turn.{Quiet, Broken, Dropped, Heard, Unheard, Paused, Ticked, Unticked, Unseen, AskedSeed, UnaskedSeed, AskedInTurn, UnaskedInTurn, Looked, Unlooked, AskedMember, UnaskedMember, FoundNobody, Unfound, Departed, Undeparted, Pulled}
+use Rattle.lg_turns.specs.Meaning.Turns.Turn.{Quiet, Broken, Dropped, Heard, Unheard, Paused, Ticked, Unticked, Unseen, AskedSeed, UnaskedSeed, AskedInTurn, UnaskedInTurn, Looked, Unlooked, AskedMember, UnaskedMember, FoundNobody, Unfound, Learned, Departed, Undeparted, Pulled}
 use Rattle.lg_turns.specs.Meaning.Leaving.{departs, next_plan, plan_after, HasLeft, HasLeftIf, leaves_at, Stays}
 use Rattle.lg_turns.specs.Meaning.Pulling.{waiting, waiting_from, asking_distance}
 use Rattle.lg_loops.proofs.TurnLaws.{is_of_turn}
@@ -16,29 +16,31 @@ pub plan_more : (plan : Plan) (turns : List Turn) (t : Turn) → plan_after plan
 plan_more plan [] t = refl
 plan_more plan (u ∷ turns) t = plan_more (next_plan plan u) turns t
 
-same_plan : (plan : Plan) (t : Turn) → departs t ≡ false → next_plan plan t ≡ plan
-same_plan plan (Quiet limit) is = refl
-same_plan plan Broken is = refl
-same_plan plan (Dropped source bytes) is = refl
-same_plan plan (Heard now source bytes k r sent) is = refl
-same_plan plan (Unheard now source bytes e) is = refl
-same_plan plan (Paused now) is = refl
-same_plan plan (Ticked now words r sent) is = refl
-same_plan plan (Unticked now words e) is = refl
-same_plan plan (Unseen e) is = refl
-same_plan plan (AskedSeed now peer r sent) is = refl
-same_plan plan (UnaskedSeed now peer e) is = refl
-same_plan plan (AskedInTurn now peer r sent) is = refl
-same_plan plan (UnaskedInTurn now peer e) is = refl
-same_plan plan (Looked now seen asks) is = refl
-same_plan plan (Unlooked now) is = refl
-same_plan plan (AskedMember now words seen peer r sent) is = refl
-same_plan plan (UnaskedMember now words seen peer e) is = refl
-same_plan plan (FoundNobody now seen) is = refl
-same_plan plan (Unfound now) is = refl
-same_plan plan (Departed now words r sent) is = absurd cc
-same_plan plan (Undeparted now words e) is = refl
-same_plan plan (Pulled now peer r sent) is = refl
+-- a turn in which it doesn't leave doesn't change whether it leaves
+same_leaves : (plan : Plan) (t : Turn) → departs t ≡ false → (next_plan plan t).leaves ≡ plan.leaves
+same_leaves plan (Quiet limit) is = refl
+same_leaves plan Broken is = refl
+same_leaves plan (Dropped source bytes) is = refl
+same_leaves plan (Heard now source bytes k r sent) is = refl
+same_leaves plan (Unheard now source bytes e) is = refl
+same_leaves plan (Paused now) is = refl
+same_leaves plan (Ticked now words r sent) is = refl
+same_leaves plan (Unticked now words e) is = refl
+same_leaves plan (Unseen e) is = refl
+same_leaves plan (AskedSeed now peer r sent) is = refl
+same_leaves plan (UnaskedSeed now peer e) is = refl
+same_leaves plan (AskedInTurn now peer r sent) is = refl
+same_leaves plan (UnaskedInTurn now peer e) is = refl
+same_leaves plan (Looked now seen asks) is = refl
+same_leaves plan (Unlooked now) is = refl
+same_leaves plan (AskedMember now words seen peer r sent) is = refl
+same_leaves plan (UnaskedMember now words seen peer e) is = refl
+same_leaves plan (FoundNobody now seen) is = refl
+same_leaves plan (Unfound now) is = refl
+same_leaves plan (Learned now found) is = refl
+same_leaves plan (Departed now words r sent) is = absurd cc
+same_leaves plan (Undeparted now words e) is = refl
+same_leaves plan (Pulled now peer r sent) is = refl
 
 -- it left in the first turn, or in one behind it
 left_now : (t : Turn) (turns : List Turn) (b : Bool) → departs t ≡ b → (b ≡ false → HasLeft turns) → HasLeft (t ∷ turns)
@@ -50,7 +52,7 @@ left_now t turns false is behind =
 -- if its plan said that it leaves, and says so no more, it has left
 left_so : (plan : Plan) (turns : List Turn) → plan.leaves ≡ true → (plan_after plan turns).leaves ≡ false → HasLeft turns
 left_so plan [] may not = absurd cc
-left_so plan (t ∷ turns) may not = left_now t turns (departs t) refl (λ is. left_so (next_plan plan t) turns (ap (λ (p : Plan). p.leaves) (same_plan plan t is) ∙ may) not)
+left_so plan (t ∷ turns) may not = left_now t turns (departs t) refl (λ is. left_so (next_plan plan t) turns (same_leaves plan t is ∙ may) not)
 
 left_if : (plan : Plan) (turns : List Turn) (b : Bool) → plan.leaves ≡ b → (plan_after plan turns).leaves ≡ false → HasLeftIf b turns
 left_if plan turns true may not = left_so plan turns may not
@@ -89,6 +91,7 @@ none_waits_by (AskedMember now words seen peer r sent) = refl
 none_waits_by (UnaskedMember now words seen peer e) = refl
 none_waits_by (FoundNobody now seen) = refl
 none_waits_by (Unfound now) = refl
+none_waits_by (Learned now found) = refl
 none_waits_by (Departed now words r sent) = refl
 none_waits_by (Undeparted now words e) = refl
 none_waits_by (Pulled now peer r sent) = refl

@@ -13,9 +13,10 @@ use Rattle.lg_agent.specs.declared.receipt.Receipt.{Receipt}
 use Rattle.lg_loops.specs.declared.agenda.Agenda.{Agenda}
 use Rattle.lg_turns.specs.declared.plan.Plan.{Plan}
 use Rattle.lg_turns.specs.Meaning.Turns.{Turn}
-use Rattle.lg_turns.specs.Meaning.Turns.Turn.{Looked, Unlooked, Departed}
+use Rattle.lg_turns.specs.Meaning.Turns.Turn.{Looked, Unlooked, Learned, Departed}
 use Rattle.lg_turns.specs.Meaning.Leaving.{lingering}
-use Rattle.lg_turns.specs.Meaning.Pulling.{looks_in, last_moment, askings, askings_from, askings_after, seed_turns, waiting, waiting_from, look_ms, AreTimely, IsFirstWaiting, IsLookTime, IsAskingTime, IsIdleTime, MayAskMember, MayAskInTurn}
+use Rattle.lg_turns.specs.Meaning.Resolving.{learning}
+use Rattle.lg_turns.specs.Meaning.Pulling.{looks_from, last_moment, askings, askings_from, askings_after, seed_turns, waiting, waiting_from, look_ms, AreTimely, IsFirstWaiting, IsLookTime, IsAskingTime, IsIdleTime, MayAskMember, MayAskInTurn}
 use Rattle.lg_loops.specs.Support.Acted.{IsAgenda, IsAsking, IsNextAgenda, IsAskingDue, IsSeedNext, IsMemberNext, IsNoLook, IsNoAsking, agenda_at, waiting_by}
 use Rattle.lg_loops.proofs.LeavingLaws.{none_ever, no_distance}
 
@@ -38,19 +39,19 @@ askings-append moments (u ∷ turns) t = askings-append (askings moments u) turn
 
 -- the agenda after one more turn
 pub agenda_more : (plan : Plan) (since : ℕ) (before : List Turn) (t : Turn) (a b : Agenda) → IsAgenda plan since before a
-    → b.looked ≡ last_moment a.looked (looks_in t) → IsAsking plan (askings (askings_after since before) t) b → waiting_by plan b ≡ waiting plan.seeds.items (waiting_by plan a) t
+    → b.next_look ≡ last_moment a.next_look (looks_from t) → IsAsking plan (askings (askings_after since before) t) b → waiting_by plan b ≡ waiting plan.seeds.items (waiting_by plan a) t
     → IsAgenda plan since (before ++ t ∷ []) b
-agenda_more plan since before t a b was looked asking waits = record {
-  looked = looked ∙ (ap (λ n. last_moment n (looks_in t)) was.looked ∙ sym (last_more looks_in since before t));
+agenda_more plan since before t a b was look asking waits = record {
+  look = look ∙ (ap (λ n. last_moment n (looks_from t)) was.look ∙ sym (last_more looks_from (since + look_ms) before t));
   asking = subst (λ (ms : List ℕ). IsAsking plan ms b) (sym (askings-append (since ∷ []) before t)) asking;
   waits = waits ∙ (ap (λ (l : List Addr). waiting plan.seeds.items l t) was.waits ∙ sym (waiting-append plan.seeds.items [] before t));
 }
 
 -- a turn in which nothing is noted
 pub agenda_same : (plan : Plan) (since : ℕ) (before : List Turn) (t : Turn) (a : Agenda) → IsAgenda plan since before a
-    → a.looked ≡ last_moment a.looked (looks_in t) → askings (askings_after since before) t ≡ askings_after since before → waiting_by plan a ≡ waiting plan.seeds.items (waiting_by plan a) t
+    → a.next_look ≡ last_moment a.next_look (looks_from t) → askings (askings_after since before) t ≡ askings_after since before → waiting_by plan a ≡ waiting plan.seeds.items (waiting_by plan a) t
     → IsAgenda plan since (before ++ t ∷ []) a
-agenda_same plan since before t a was looked same waits = agenda_more plan since before t a a was looked (subst (λ (ms : List ℕ). IsAsking plan ms a) (sym same) was.asking) waits
+agenda_same plan since before t a was look same waits = agenda_more plan since before t a a was look (subst (λ (ms : List ℕ). IsAsking plan ms a) (sym same) was.asking) waits
 
 -- an agenda that counts from a moment
 pub asking_from : (plan : Plan) (now asked : ℕ) → IsAsking plan (now ∷ []) (agenda_at plan now asked)
@@ -75,10 +76,10 @@ asking_next plan moments now a b was is =
 
 -- the agenda after a turn in which a table was asked for in turn, or was to be
 pub agenda_next : (plan : Plan) (since : ℕ) (before : List Turn) (t : Turn) (now : ℕ) (a b : Agenda) → IsAgenda plan since before a → IsNextAgenda plan now a b
-    → a.looked ≡ last_moment a.looked (looks_in t) → askings (askings_after since before) t ≡ now ∷ askings_after since before → waiting_by plan a ≡ waiting plan.seeds.items (waiting_by plan a) t
+    → a.next_look ≡ last_moment a.next_look (looks_from t) → askings (askings_after since before) t ≡ now ∷ askings_after since before → waiting_by plan a ≡ waiting plan.seeds.items (waiting_by plan a) t
     → IsAgenda plan since (before ++ t ∷ []) b
-agenda_next plan since before t now a b was is looked asks waits =
-    agenda_more plan since before t a b was (is.looked ∙ looked) (subst (λ (ms : List ℕ). IsAsking plan ms b) (sym asks) (asking_next plan (askings_after since before) now a b was.asking is)) (ap (λ (n : ℕ). drop n plan.seeds.items) is.asked ∙ waits)
+agenda_next plan since before t now a b was is look asks waits =
+    agenda_more plan since before t a b was (is.look ∙ look) (subst (λ (ms : List ℕ). IsAsking plan ms b) (sym asks) (asking_next plan (askings_after since before) now a b was.asking is)) (ap (λ (n : ℕ). drop n plan.seeds.items) is.asked ∙ waits)
 
 pub timely_join : (plan : Plan) (since : ℕ) (before ts us : List Turn) → AreTimely plan since before ts → AreTimely plan since (before ++ ts) us → AreTimely plan since before (ts ++ us)
 timely_join plan since before [] us one two = subst (λ (l : List Turn). AreTimely plan since l us) (append-nil before) two
@@ -107,23 +108,23 @@ seed_first plan since before a peer was is = (waiting_by plan (record a { asked 
 
 -- the agenda after a turn in which a seed that waited was asked
 pub seed_noted : (plan : Plan) (since : ℕ) (before : List Turn) (t : Turn) (a : Agenda) (peer : Addr) → IsAgenda plan since before a
-    → a.looked ≡ last_moment a.looked (looks_in t) → askings (askings_after since before) t ≡ askings_after since before → waiting plan.seeds.items (waiting_by plan a) t ≡ drop 1 (waiting_by plan a)
+    → a.next_look ≡ last_moment a.next_look (looks_from t) → askings (askings_after since before) t ≡ askings_after since before → waiting plan.seeds.items (waiting_by plan a) t ≡ drop 1 (waiting_by plan a)
     → waiting_by plan a ≡ peer ∷ waiting_by plan (record a { asked = a.asked + 1 }) → IsAgenda plan since (before ++ t ∷ []) (record a { asked = a.asked + 1 })
-seed_noted plan since before t a peer was looked same one is =
+seed_noted plan since before t a peer was look same one is =
     let w = was.asking in
-    agenda_more plan since before t a (record a { asked = a.asked + 1 }) was looked
+    agenda_more plan since before t a (record a { asked = a.asked + 1 }) was look
     (subst (λ (ms : List ℕ). IsAsking plan ms (record a { asked = a.asked + 1 })) (sym same) (record { earlier = w.earlier; are = w.are; distance = w.distance; turn = w.turn; next = w.next }))
     (sym (one ∙ ap (λ (l : List Addr). drop 1 l) is))
 
 -- what is to be done by an agenda is timely
-pub look_time : (plan : Plan) (since : ℕ) (before : List Turn) (a : Agenda) (now : ℕ) → IsAgenda plan since before a → (waiting_by plan a ≡ []) × (0 < length plan.seeds.items) × (a.looked + look_ms ≤ now)
+pub look_time : (plan : Plan) (since : ℕ) (before : List Turn) (a : Agenda) (now : ℕ) → IsAgenda plan since before a → (waiting_by plan a ≡ []) × (0 < length plan.seeds.items) × (a.next_look ≤ now)
     → IsLookTime plan since before now
-look_time plan since before a now was is = record { none_waits = sym was.waits ∙ is.0; some = is.1; come = let l = was.looked in let m = is.2 in rw (← l) m }
+look_time plan since before a now was is = record { none_waits = sym was.waits ∙ is.0; some = is.1; come = let l = was.look in let m = is.2 in rw (← l) m }
 
 asking_time : (plan : Plan) (since : ℕ) (before : List Turn) (a : Agenda) (now : ℕ) → IsAgenda plan since before a → IsAskingDue plan a now → IsAskingTime plan since before now
 asking_time plan since before a now was is = record {
   none_waits = sym was.waits ∙ is.none_waits;
-  no_look = let l = was.looked in let m = is.no_look in rw (← l) m;
+  no_look = let l = was.look in let m = is.no_look in rw (← l) m;
   some = is.some;
   come = let d = was.asking.distance in let m = is.come in rw (was.asking.are, ← d) m;
 }
@@ -149,26 +150,39 @@ seed_time plan since before a now peer low was is =
 pub idle_time : (plan : Plan) (since : ℕ) (before : List Turn) (a : Agenda) (now : ℕ) → IsAgenda plan since before a → (waiting_by plan a ≡ []) × IsNoLook plan a now × IsNoAsking plan a now → IsIdleTime plan since before now
 idle_time plan since before a now was is = record {
   none_waits = sym was.waits ∙ is.0;
-  no_look = let l = was.looked in let m = is.1 in rw (← l) m;
+  no_look = let l = was.look in let m = is.1 in rw (← l) m;
   no_asking = let d = was.asking.distance in let m = is.2 in rw (was.asking.are, ← d) m;
 }
 
 -- the agenda after a look
 pub look_noted : (plan : Plan) (since : ℕ) (before : List Turn) (a : Agenda) (now : ℕ) (seen : List Event) (asks : Bool) → IsAgenda plan since before a
-    → IsAgenda plan since (before ++ Looked now seen asks ∷ []) (if asks then record (agenda_at plan now 0) { left = a.left } else record a { looked = now; asked = length plan.seeds.items })
+    → IsAgenda plan since (before ++ Looked now seen asks ∷ []) (if asks then record (agenda_at plan now 0) { left = a.left } else record a { next_look = now + look_ms; asked = length plan.seeds.items })
 look_noted plan since before a now seen true was =
     let w = asking_from plan now 0 in
     agenda_more plan since before (Looked now seen true) a (record (agenda_at plan now 0) { left = a.left }) was refl (record { earlier = w.earlier; are = w.are; distance = w.distance; turn = w.turn; next = w.next }) refl
 look_noted plan since before a now seen false was =
     let w = was.asking in
-    agenda_more plan since before (Looked now seen false) a (record a { looked = now; asked = length plan.seeds.items }) was refl (record { earlier = w.earlier; are = w.are; distance = w.distance; turn = w.turn; next = w.next })
+    agenda_more plan since before (Looked now seen false) a (record a { next_look = now + look_ms; asked = length plan.seeds.items }) was refl (record { earlier = w.earlier; are = w.are; distance = w.distance; turn = w.turn; next = w.next })
     (none_waits plan.seeds.items (length plan.seeds.items) (omega arith))
 
 -- the agenda after a look that was refused
-pub no_look_noted : (plan : Plan) (since : ℕ) (before : List Turn) (a : Agenda) (now : ℕ) → IsAgenda plan since before a → IsAgenda plan since (before ++ Unlooked now ∷ []) (record a { looked = now })
+pub no_look_noted : (plan : Plan) (since : ℕ) (before : List Turn) (a : Agenda) (now : ℕ) → IsAgenda plan since before a → IsAgenda plan since (before ++ Unlooked now ∷ []) (record a { next_look = now + look_ms })
 no_look_noted plan since before a now was =
     let w = was.asking in
-    agenda_more plan since before (Unlooked now) a (record a { looked = now }) was refl (record { earlier = w.earlier; are = w.are; distance = w.distance; turn = w.turn; next = w.next }) refl
+    agenda_more plan since before (Unlooked now) a (record a { next_look = now + look_ms }) was refl (record { earlier = w.earlier; are = w.are; distance = w.distance; turn = w.turn; next = w.next }) refl
+
+-- the agenda after other addresses of the seeds were learned
+pub learned_noted : (plan : Plan) (since : ℕ) (before : List Turn) (a : Agenda) (now : ℕ) (found : List Addr) → IsAgenda plan since before a
+    → IsAgenda (learning plan found) since (before ++ Learned now found ∷ []) (record (agenda_at (learning plan found) now (length (learning plan found).seeds.items)) { next_look = now; left = a.left })
+learned_noted plan since before a now found was =
+    let after : Plan = learning plan found in
+    let t : Turn = Learned now found in
+    let w = asking_from after now (length after.seeds.items) in
+    record {
+      look = sym (last_more looks_from (since + look_ms) before t);
+      asking = rw (askings-append (since ∷ []) before t) (record { earlier = w.earlier; are = w.are; distance = w.distance; turn = w.turn; next = w.next });
+      waits = none_waits after.seeds.items (length after.seeds.items) (omega arith) ∙ sym (waiting-append after.seeds.items [] before t);
+    }
 
 -- and after this member left: its plan has no seeds any more, and asks for no table
 pub leave_noted : (plan : Plan) (since : ℕ) (before : List Turn) (a : Agenda) (now : ℕ) (words : List ℕ) (r : Receipt) (sent : List Bool) → IsAgenda plan since before a
@@ -178,7 +192,7 @@ leave_noted plan since before a now words r sent was =
     let t : Turn = Departed now words r sent in
     let turns : List Turn = before ++ t ∷ [] in
     record {
-      looked = was.looked ∙ sym (last_more looks_in since before t);
+      look = was.look ∙ sym (last_more looks_from (since + look_ms) before t);
       asking = rw (askings-append (since ∷ []) before t) (record { earlier = w.earlier; are = w.are; distance = sym (no_distance plan.interval_ms w.earlier); turn = w.turn; next = λ some. absurd (omega (arith, some)) });
       waits = sym (none_ever turns);
     }

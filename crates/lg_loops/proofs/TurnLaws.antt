@@ -11,7 +11,7 @@ use Rattle.lg_turns.specs.declared.ending.Why.{Why}
 use Rattle.lg_turns.specs.declared.ending.Why.TheVariants.{Stopped, Ousted, LinkFailed, Refused, ReadBound}
 use Rattle.lg_loops.specs.declared.turned.Turned.{Turned}
 use Rattle.lg_turns.specs.Meaning.Turns.{Turn, deeds, drops, losses, breaks, stops, goes_on, IsTurn, Follows, LinkValue, Made, Counts, Ends, Ran, Threw, words_in}
-use Rattle.lg_turns.specs.Meaning.Turns.Turn.{Quiet, Broken, Dropped, Heard, Unheard, Paused, Ticked, Unticked, Unseen, AskedSeed, UnaskedSeed, AskedInTurn, UnaskedInTurn, Looked, Unlooked, AskedMember, UnaskedMember, FoundNobody, Unfound, Departed, Undeparted, Pulled}
+use Rattle.lg_turns.specs.Meaning.Turns.Turn.{Quiet, Broken, Dropped, Heard, Unheard, Paused, Ticked, Unticked, Unseen, AskedSeed, UnaskedSeed, AskedInTurn, UnaskedInTurn, Looked, Unlooked, AskedMember, UnaskedMember, FoundNobody, Unfound, Learned, Departed, Undeparted, Pulled}
 use Rattle.lg_loops.specs.Support.Took.{Took}
 
 pub follows-append : (p m q : PassValue) (turns : List Turn) (t : Turn) → Follows p turns m → IsTurn m t q → Follows p (turns ++ t ∷ []) q
@@ -71,6 +71,7 @@ stops_of_turn (AskedMember now words seen peer r sent) = ousted_of_turn r.reply.
 stops_of_turn (UnaskedMember now words seen peer e) = refl
 stops_of_turn (FoundNobody now seen) = refl
 stops_of_turn (Unfound now) = refl
+stops_of_turn (Learned now found) = refl
 stops_of_turn (Departed now words r sent) = refl
 stops_of_turn (Undeparted now words e) = refl
 stops_of_turn (Pulled now peer r sent) = refl

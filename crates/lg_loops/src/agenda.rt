@@ -8,8 +8,8 @@ ghost use Rattle.lg_loops.specs.Support.Acted.{IsAgenda, IsDuty, IsNoLook, IsNoA
 ghost use Rattle.lg_loops.specs.Support.Acted.{IsNextAgenda, agenda_at};
 
 use lg_rules::Addr;
-use lg_timing::{MAX_SEEDS, Moment};
-use lg_turns::Plan;
+use lg_timing::Moment;
+use lg_turns::{MAX_ASKED, Plan};
 
 /// How long it is from one look whether the seeds are to be asked to the next, in milliseconds.
 pub const LOOK_MS: u64 = 1000;
@@ -20,8 +20,8 @@ pub(crate) const LONGEST: u64 = u64::MAX;
 /// What the ticking loop has done besides its ticks.
 #[derive(Clone, Copy, Debug)]
 pub(crate) struct Agenda {
-    /// The moment of the last look whether the seeds are to be asked, or of the loop's beginning.
-    looked: u64,
+    /// From when on there is a look whether the seeds are to be asked.
+    next_look: u64,
     /// The moment at which a table was asked for in turn the last time, or that from which this is counted: when a look
     /// said that the seeds are to be asked, or the loop began.
     latest: u64,
@@ -63,6 +63,13 @@ fn remaining(from: u64, interval: u64, now: Moment) -> u64
     ahead.saturating_add(interval.saturating_sub(passed))
 }
 
+/// From when on there is a look again, if the last was at a moment.
+fn look_behind(now: Moment) -> u64
+    ensures { result ≡ now + LOOK_MS }
+{
+    now.milliseconds() + LOOK_MS
+}
+
 /// The number behind a number, in turn: 0 comes behind the last of so many.
 fn number_behind(number: usize, count: usize) -> usize
     ensures { 0 < count → result ≡ (number + 1) % count }
@@ -87,7 +94,7 @@ impl Agenda {
     {
         let moment = now.milliseconds();
         Agenda {
-            looked: moment,
+            next_look: look_behind(now),
             latest: moment,
             distance: plan.pull_ms.min(plan.interval_ms),
             is_seeds_turn: true,
@@ -99,14 +106,14 @@ impl Agenda {
 
     /// How long it is until the next look. If there are no seeds, there is none, and it is the longest time.
     fn until_look(&self, plan: &Plan, now: Moment) -> u64
-        ensures left { result ≡ least_time LONGEST (look_left plan.now (self.now.looked + LOOK_MS) now) }
-        ensures due { result ≡ 0 → (0 < length plan.now.seeds.items) × (self.now.looked + LOOK_MS ≤ now) }
+        ensures left { result ≡ least_time LONGEST (look_left plan.now self.now.next_look now) }
+        ensures due { result ≡ 0 → (0 < length plan.now.seeds.items) × (self.now.next_look ≤ now) }
         ensures later { 0 < result → IsNoLook plan.now self.now now }
     {
         if plan.seeds.len() == 0 {
             return LONGEST;
         }
-        remaining(self.looked, LOOK_MS, now)
+        self.next_look.saturating_sub(now.milliseconds())
     }
 
     /// How long it is until a table is asked for in turn. If none ever is, it is the longest time.
@@ -155,7 +162,7 @@ impl Agenda {
 
     /// A seed that waited was asked.
     pub(crate) fn note_seed(&mut self)
-        requires { self.old.asked < MAX_SEEDS }
+        requires { self.old.asked < MAX_ASKED }
         ensures { self.new ≡ record self.old { asked = self.old.asked + 1 } }
     {
         self.asked += 1;
@@ -165,7 +172,7 @@ impl Agenda {
     /// are asked for in turn.
     pub(crate) fn note_look(&mut self, plan: &Plan, now: Moment, asks: bool)
         ensures { self.new ≡ (if asks then record (agenda_at plan.now now 0) { left = self.old.left }
-            else record self.old { looked = now; asked = length plan.now.seeds.items }) }
+            else record self.old { next_look = now + LOOK_MS; asked = length plan.now.seeds.items }) }
     {
         if asks {
             let left = self.left;
@@ -175,15 +182,29 @@ impl Agenda {
             };
             return;
         }
-        self.looked = now.milliseconds();
+        self.next_look = look_behind(now);
         self.asked = plan.seeds.len();
     }
 
     /// A look was refused: it is put off to the next time.
     pub(crate) fn note_no_look(&mut self, now: Moment)
-        ensures { self.new ≡ record self.old { looked = now } }
+        ensures { self.new ≡ record self.old { next_look = now + LOOK_MS } }
     {
-        self.looked = now.milliseconds();
+        self.next_look = look_behind(now);
+    }
+
+    /// Other addresses of the seeds were learned, which the plan has: there is a look at once. None waits until then,
+    /// and it is counted anew from here when tables are asked for in turn.
+    pub(crate) fn note_learned(&mut self, plan: &Plan, now: Moment)
+        ensures { self.new ≡ record (agenda_at plan.now now (length plan.now.seeds.items))
+            { next_look = now; left = self.old.left } }
+    {
+        let left = self.left;
+        *self = Agenda {
+            next_look: now.milliseconds(),
+            left,
+            ..Agenda::at(plan, now, plan.seeds.len())
+        };
     }
 
     /// A table was asked for in turn, or was to be.

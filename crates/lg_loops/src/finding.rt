@@ -1,13 +1,16 @@
-//! The ticking loop finds its group: it asks seeds and members for their tables.
+//! The ticking loop finds its group: it asks seeds and members for their tables, and learns which addresses the seeds
+//! have that are hosts.
 //!
-//! Defined in: `specs/Meaning/Pulling.antt`, `specs/Meaning/Turns.antt`, `specs/Support/Acted.antt`.
-//! Tested in: `lg_node_tests/src/node/finding.rt`, `cases/groups`.
-ghost use Rattle.std.specs.Prelude.{◌≡◌, ◌<◌, ◌||◌, [], true, not, length, MatchOption};
+//! Defined in: `specs/Meaning/Pulling.antt`, `specs/Meaning/Resolving.antt`, `specs/Meaning/Turns.antt`,
+//! `specs/Support/Acted.antt`.
+//! Tested in: `lg_node_tests/src/node/finding.rt`, `lg_node_tests/src/node/resolving.rt`, `cases/groups`.
+ghost use Rattle.std.specs.Prelude.{◌≡◌, ◌<◌, ◌||◌, [], true, not, length, IfSome, MatchOption};
 ghost use Rattle.std.specs.List.{list_all};
 ghost use Rattle.lg_detector.specs.Meaning.Step.{view_after};
 ghost use Rattle.lg_agent.specs.Meaning.Values.{PassValue};
 ghost use Rattle.lg_agent.specs.Meaning.Calls.{IsLook};
 ghost use Rattle.lg_turns.specs.declared.plan.Plan.{Plan as Planned};
+ghost use Rattle.lg_turns.specs.Meaning.Resolving.{learning};
 ghost use Rattle.lg_loops.specs.declared.agenda.Duty.TheVariants as duty;
 ghost use Rattle.lg_turns.specs.Meaning.Pulling.{others_of, has_gone, IsChosen};
 ghost use Rattle.lg_turns.specs.Meaning.Turns.{line, words_in, SeesNoneDue, Threw};
@@ -17,11 +20,12 @@ use crate::agenda::Agenda;
 use crate::calling;
 use crate::ticker::Ticker;
 use crate::turned::Turned;
+use arrayvec::ArrayVec;
 use lg_agent::{AgentName, Pass};
 use lg_detector::Reply;
 use lg_rules::{Addr, Name, Record};
-use lg_timing::{MAX_SEEDS, Moment};
-use lg_turns::{Dice, Link, Plan, Shared, Side};
+use lg_timing::Moment;
+use lg_turns::{Dice, Link, MAX_ASKED, MAX_FOUND, Plan, Shared, Side};
 use std::alloc::Global;
 use std::sync::Wait;
 use std::sync::atomic::Ordering::SeqCst;
@@ -62,6 +66,40 @@ fn chosen(records: &[Record], words: &[u32; 8]) -> Addr
     records[words[0] as usize % records.len()].addr
 }
 
+/// The addresses that the hosts among the seeds were found to have, if they were told and are to be learned.
+pub(crate) fn found_for<R: Wait, C>(
+    shared: &Shared<'_, R, C>,
+    plan: &Plan,
+) -> Option<ArrayVec<Addr, MAX_FOUND>>
+    ensures { IfSome result (λ found. plan.now.learns ≡ true) }
+{
+    if !plan.learns {
+        return None;
+    }
+    shared.resolved.take(shared.rt)
+}
+
+/// Learns which addresses the hosts among the seeds have.
+pub(crate) fn learn<A: AgentName, L: Link>(
+    side: &Side<'_, L, A>,
+    plan: &mut Plan,
+    agenda: &mut Agenda,
+    now: Moment,
+    found: &ArrayVec<Addr, MAX_FOUND>,
+) -> Turned
+    ensures plan { plan.new ≡ learning plan.old found.now.items }
+    ensures acted { (p : PassValue) → SeesNoneDue p now side.now.pass → now < plan.old.until
+        → plan.old.learns ≡ true
+        → (acted : Acted plan.old plan.new L.tells (line (L.log side.now.link) (L.failed side.now.link))
+        (line (L.log side.now.link) (L.failed side.now.link)) p side.now.pass agenda.old agenda.new result)
+        × (words_in acted.took.turn ≡ []) }
+{
+    let _ = &side.link;
+    plan.learn(found);
+    agenda.note_learned(plan, now);
+    Turned::on()
+}
+
 /// Asks a seed that waits.
 pub(crate) fn ask_seed<A: AgentName, R: Wait, L: Link, C>(
     shared: &Shared<'_, R, C>,
@@ -71,7 +109,7 @@ pub(crate) fn ask_seed<A: AgentName, R: Wait, L: Link, C>(
     peer: Addr,
     reply: &mut Reply,
 ) -> Turned
-    requires { agenda.old.asked < MAX_SEEDS }
+    requires { agenda.old.asked < MAX_ASKED }
     ensures { (plan : Planned) → (p : PassValue) → SeesNoneDue p now side.old.pass → now < plan.until
         → IsDuty plan agenda.old now (duty.Seed peer)
         → (acted : Acted plan plan L.tells (line (L.log side.old.link) (L.failed side.old.link))

@@ -14,7 +14,7 @@ ghost use Rattle.lg_turns.specs.Meaning.Turns.{line, words_in, SeesDue, Threw, T
 ghost use Rattle.lg_loops.specs.Support.Acted.{Acted, IsAgenda, IsDuty};
 
 use crate::agenda::{Agenda, Duty};
-use crate::finding::{ask_in_turn, ask_member, ask_seed, look};
+use crate::finding::{ask_in_turn, ask_member, ask_seed, found_for, learn, look};
 use crate::stretch::Stretch;
 use crate::ticker::Ticker;
 use crate::turned::Turned;
@@ -136,8 +136,8 @@ fn depart<A: AgentName, R: Wait, L: Link, C, D: Dice>(
 }
 
 /// The next turn of a loop, or none if it is to stop and this member doesn't leave, or has left. If the loop goes on,
-/// it ticks if the next deadline has come. Otherwise it does what the agenda says, or pauses. A reply is written over
-/// `reply`.
+/// it ticks if the next deadline has come. Otherwise it learns addresses of seeds if there are any to learn, does what
+/// the agenda says, or pauses. A reply is written over `reply`.
 fn next_turn<A: AgentName, R: Wait, L: Link, C: Clock, D: Dice>(
     shared: &Shared<'_, R, C>,
     ticker: &mut Ticker<'_, L, A, D>,
@@ -165,6 +165,9 @@ fn next_turn<A: AgentName, R: Wait, L: Link, C: Clock, D: Dice>(
     };
     if deadline <= now.milliseconds() {
         return Some(tick(shared, ticker, now, reply));
+    }
+    if let Some(found) = found_for(shared, plan) {
+        return Some(learn(&ticker.side, plan, agenda, now, &found));
     }
     Some(match agenda.duty(plan, now) {
         Duty::Seed(peer) => ask_seed(shared, &mut ticker.side, agenda, now, peer, reply),

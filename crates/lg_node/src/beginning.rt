@@ -57,8 +57,8 @@ where
         (line [] (failures_of r.sides.receiver.link)) (line [] (failures_of r.sides.ticker.link))
         r.sides.receiver.pass r.sides.ticker.pass r.asker r.server.pass r.unsent) }
     ensures plan { IfOk result (λ r. r.sides.plan
-        ≡ plan_of setup.now.config.now setup.now.settings.now.seeds.items setup.now.settings.now.pull_ms
-        setup.now.until) }
+        ≡ plan_of setup.now.config.now setup.now.settings.now.seeds.items setup.now.settings.now.learns
+        setup.now.settings.now.pull_ms setup.now.until) }
     ensures dice { IfOk result (λ r. r.sides.dice ≡ seeded setup.now.settings.now.dice) }
     ensures told { IfOk result (λ r. (r.server.config.now ≡ setup.now.config.now)
         × (r.server.settings.now ≡ setup.now.settings.now) × (r.server.server ≡ server.entry)) }
@@ -94,6 +94,7 @@ where
         Plan::new(
             setup.config,
             &setup.settings.seeds,
+            setup.settings.learns,
             setup.settings.pull_ms,
             setup.until,
         ),

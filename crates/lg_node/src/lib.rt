@@ -21,7 +21,8 @@ pub use lg_follow::Watched;
 pub use lg_status_server::Served;
 pub use lg_turns::{
     ChangeSignal, Counted, Dice, Ended, KeyedLink, Link, LinkFault, LoopEnd, MAX_DATAGRAM,
-    MAX_TURNS, PcgDice, Plan, ReceivingLoop, SeedAsker, Shared, Side, TickingLoop, UdpLink, Why,
+    MAX_FOUND, MAX_TURNS, PcgDice, Plan, ReceivingLoop, ResolvedSeeds, SeedAsker, Shared, Side,
+    TickingLoop, UdpLink, Why,
 };
 pub use node::{NodeEnd, NodeFault, NodeStart, Settings, run_node};
 pub use parts::Work;

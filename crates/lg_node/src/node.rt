@@ -18,7 +18,7 @@ use lg_seal::Keys;
 use lg_status_server::Served;
 use lg_text::FaultStream;
 use lg_timing::{Config, MAX_SEEDS, Moment};
-use lg_turns::{LoopEnd, ReceivingLoop, SeedAsker, TickingLoop};
+use lg_turns::{LoopEnd, ReceivingLoop, ResolvedSeeds, SeedAsker, TickingLoop};
 use lg_view::UnnamedBook;
 use std::alloc::Global;
 use std::io::{ErrorKind, Write};
@@ -38,6 +38,11 @@ pub struct Settings {
     pub bind: Addr,
     /// The addresses of its seeds: those that it asks for their tables, in this order.
     pub seeds: ArrayVec<Addr, MAX_SEEDS>,
+    /// Whether hosts are among its seeds too. Then its ticking loop learns which addresses they have.
+    pub learns: bool,
+    /// How long it is from one resolving of these hosts to the next, in milliseconds. It is only shown: the node learns
+    /// what it is told ([`NodeStart::resolved`]).
+    pub resolve_ms: u64,
     /// The seeds that its status server shows, with their names and in this order. The node asks those of `seeds`.
     pub shown_seeds: ArrayVec<SeedPlace, MAX_SEEDS>,
     /// The number that seeds its random words.
@@ -62,7 +67,7 @@ pub struct Settings {
 }
 
 /// What a node is started with.
-#[derive(Clone, Copy, Debug)]
+#[derive(Clone, Copy)]
 pub struct NodeStart<'n, O> {
     /// Which loops it has: those of `lg_loops`.
     pub loops: O,
@@ -74,6 +79,8 @@ pub struct NodeStart<'n, O> {
     pub until: Moment,
     /// The flag that stops it earlier.
     pub stop: &'n AtomicBool,
+    /// Which addresses the hosts among its seeds are found to have, while it runs.
+    pub resolved: &'n ResolvedSeeds,
 }
 
 /// How a node ended whose loops had begun.
@@ -120,8 +127,9 @@ pub enum NodeFault {
 /// in order. Then it runs [`join_threads`](crate::join_threads) with the steady clock
 /// ([`SteadyClock`](lg_clock::SteadyClock)), the words of [`PcgDice`](crate::PcgDice), and loops that are endless. So
 /// the ticking loop asks the seeds until a Page is heard, and again while it is alone. It asks a seed and a member in
-/// turn, soon at first and then every `pull_ms`. At the end the members are read, and the agent is closed. A node that
-/// hears of no member goes on alone.
+/// turn, soon at first and then every `pull_ms`. If hosts are among the seeds, it asks the addresses that they are
+/// found to have ([`ResolvedSeeds`]), as soon as it is told them, and never waits for whoever finds them. At the end
+/// the members are read, and the agent is closed. A node that hears of no member goes on alone.
 ///
 /// If the configuration's `wire` is 3, this member leaves its group when the ticking loop is told to stop, or its end
 /// time comes (this project's choice): it tells at most eight members at once, and [`NodeEnd::members`] has its own
@@ -138,9 +146,9 @@ pub enum NodeFault {
 /// and [`NodeEnd::served`] says how that ended. A server that fails ends nothing else. It is told on `faults` when it
 /// fails, before the node ends, by [`Served::line`](lg_status_server::Served::line). Nothing else is written there.
 ///
-/// A turn of the receiving loop waits a tenth of the configuration's `timeout_ms` at most, but at least 5 and at most 50
-/// milliseconds, and at most half of the clock's stall. The ticking loop pauses until there is something to do, for a
-/// second at most; a nearer deadline and the stop flag end its pause.
+/// A turn of the receiving loop waits a tenth of the configuration's `timeout_ms` at most, but at least 5 and at most
+/// 50 milliseconds, and at most half of the clock's stall. The ticking loop pauses until there is something to do, for
+/// a second at most; a nearer deadline and the stop flag end its pause.
 ///
 /// A full history ends nothing, whether a seed is asked or a loop runs: it is rotated, and the node goes on with a
 /// summary in place of its entries. So it never has more than the configuration's `history_limit`. What ends a loop
@@ -188,6 +196,7 @@ where
         settings: start.settings,
         until: start.until,
         stop: start.stop,
+        resolved: start.resolved,
         socket: &socket,
         signal: signal.as_ref(),
     };

@@ -55,6 +55,7 @@ fn shown_of(alloc: Global, config: &Config, settings: &Settings) -> Result<Shown
         own_number("dice", settings.dice),
         own_number("pull_ms", settings.pull_ms),
         own_number("stall_ms", settings.stall_ms),
+        own_number("resolve_ms", settings.resolve_ms),
     ];
     let mut seeds = ArrayVec::new();
     seeds.try_extend_from_slice(&settings.shown_seeds).unwrap();

@@ -24,13 +24,15 @@ use crate::node::{NodeEnd, NodeFault, Settings};
 use crate::serving::StatusServer;
 use crate::threads::join_threads;
 use lg_agent::{Agent, AgentName, Refusal, Spent};
-use lg_clock::{Clock, DeadlineSignal, SteadyClock};
+use lg_clock::{Clock, SteadyClock};
 use lg_counters::Counters;
 use lg_http::Signal;
 use lg_rules::Name;
 use lg_text::FaultStream;
 use lg_timing::{Config, Moment};
-use lg_turns::{ChangeSignal, MAX_TURNS, ReceivingLoop, SeedAsker, Shared, TickingLoop};
+use lg_turns::{
+    ChangeSignal, MAX_TURNS, ReceivingLoop, ResolvedSeeds, SeedAsker, Shared, TickingLoop,
+};
 use lg_view::UnnamedBook;
 use std::alloc::Global;
 use std::io::Write;
@@ -43,8 +45,8 @@ use std::thread::Threads;
 /// The least stall of a clock that isn't the machine's, in milliseconds.
 const MIN_STALL_MS: u64 = 25;
 
-/// The longest pause of a node's ticking loop, in milliseconds (this project's choice). A nearer deadline ends it early,
-/// and so does the end of the node.
+/// The longest pause of a node's ticking loop, in milliseconds (this project's choice). A nearer deadline ends it
+/// early, and so does the end of the node.
 const MAX_PAUSE_MS: u64 = 1000;
 
 /// How many passes a node has: one for the receiving loop, one for the ticking loop, one that asks the seeds and then
@@ -62,6 +64,8 @@ pub(crate) struct Setup<'n, 's, O> {
     pub(crate) settings: &'n Settings,
     pub(crate) until: Moment,
     pub(crate) stop: &'n AtomicBool,
+    /// Which addresses the hosts among the seeds are found to have.
+    pub(crate) resolved: &'n ResolvedSeeds,
     pub(crate) socket: &'s UdpSocket,
     /// By which the status server is woken, if there is one.
     pub(crate) signal: Option<&'s Signal>,
@@ -118,7 +122,8 @@ where
         endless: true,
         wait_ms: wait_of(setup.config, stall),
         pause_ms: MAX_PAUSE_MS,
-        deadlines: &commons.deadlines,
+        deadlines: setup.resolved.deadlines(),
+        resolved: setup.resolved,
     };
     let ready = match begin(&shared, &mut agent, setup, status) {
         Ok(ready) => ready,
@@ -141,7 +146,6 @@ pub(crate) struct Commons<'r, R> {
     over: AtomicBool,
     page_heard: AtomicBool,
     changes: ChangeSignal,
-    deadlines: DeadlineSignal,
 }
 
 impl<'r, R: Wait + rt::Clock> Commons<'r, R> {
@@ -155,7 +159,6 @@ impl<'r, R: Wait + rt::Clock> Commons<'r, R> {
             over: AtomicBool::new(false),
             page_heard: AtomicBool::new(false),
             changes: ChangeSignal::new(),
-            deadlines: DeadlineSignal::new(),
         }
     }
 

@@ -10,12 +10,15 @@
 //! writer           the program    before, if it follows     when all is written, or at its fault     nobody
 //! reader           the program    before, if the end of     when the input has ended, or failed      nobody
 //!                                 the input ends the node
+//! resolver         the program    before, if hosts are      never                                    nobody
+//!                                 among the seeds
 //! ```
 //!
 //! The first four are of one scope: `tick_beside` (`beside.rt`) starts and joins them, whatever they do. What a thread
 //! does is told in one place: `Watching` (`following.rt`), `Serving` (`serving.rt`), `Receiving` (`receiving.rt`) and
-//! `tick_loop` (of `lg_loops`). The last two are the program's: the writer of what a followed node tells
-//! (`lg_cli/src/output.rt`), and the reader of the input whose end is to end the node (`lg_cli/src/node.rt`).
+//! `tick_loop` (of `lg_loops`). The last three are the program's: the writer of what a followed node tells
+//! (`lg_cli/src/output.rt`), the reader of the input whose end is to end the node (`lg_cli/src/node.rt`), and the
+//! resolver of the hosts among the seeds (`lg_resolve`, which `lg_run` starts). The end of the program cuts them off.
 //!
 //! The receiving loop sets the stop flag when it ends, at which the ticking one ends, and this one sets the flag that
 //! it is over, at which the receiving one ends. So a member that leaves is still heard and answered while its ticking

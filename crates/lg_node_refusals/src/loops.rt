@@ -5,13 +5,12 @@ use crate::links::{MovingClock, PingLink, Signs, StandingClock};
 use arrayvec::ArrayVec;
 use left_right::Absorb;
 use lg_agent::{AgentName, Pass, Spent};
-use lg_clock::DeadlineSignal;
 use lg_detector::Event;
 use lg_loops::NodeLoops;
 use lg_node::{
     Both, ChangeSignal, Counters, Ended, LoopEnd, MAX_TURNS, PcgDice, Plan, ReceivingLoop,
-    ServerSide, Settings, Shared, Side, Sides, StatusServer, TickingLoop, Watched, Watching,
-    join_threads,
+    ResolvedSeeds, ServerSide, Settings, Shared, Side, Sides, StatusServer, TickingLoop, Watched,
+    Watching, join_threads,
 };
 use lg_rules::Name;
 use lg_testing::{Room, at, letter, local};
@@ -57,7 +56,7 @@ struct Noted {
     page_heard: AtomicBool,
     counters: Counters,
     changes: ChangeSignal,
-    deadlines: DeadlineSignal,
+    resolved: ResolvedSeeds,
 }
 
 impl Noted {
@@ -69,7 +68,7 @@ impl Noted {
             page_heard: AtomicBool::new(false),
             counters: Counters::new(name, at(0)),
             changes: ChangeSignal::new(),
-            deadlines: DeadlineSignal::new(),
+            resolved: ResolvedSeeds::new(),
         }
     }
 }
@@ -78,7 +77,10 @@ impl Noted {
 fn ticks_until(until: u64, leaves: bool) -> Plan {
     Plan {
         name: Name::default(),
+        own: local(7000),
+        fixed: ArrayVec::new(),
         seeds: ArrayVec::new(),
+        learns: false,
         interval_ms: 0,
         pull_ms: 0,
         until: at(until),
@@ -112,7 +114,8 @@ fn shared<'a, R, C>(
         endless: false,
         wait_ms: WAIT_MS,
         pause_ms: WAIT_MS,
-        deadlines: &noted.deadlines,
+        deadlines: noted.resolved.deadlines(),
+        resolved: &noted.resolved,
     }
 }
 
@@ -220,6 +223,8 @@ fn settings_of(follow: bool) -> Settings {
     Settings {
         bind: local(7000),
         seeds: ArrayVec::new(),
+        learns: false,
+        resolve_ms: 60_000,
         shown_seeds: ArrayVec::new(),
         dice: 1,
         pull_ms: 0,

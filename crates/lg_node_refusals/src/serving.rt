@@ -1,7 +1,7 @@
 //! A node with a status server, whose loops end at once.
 use arrayvec::ArrayVec;
 use lg_loops::NodeLoops;
-use lg_node::{NodeStart, Served, Settings, run_node};
+use lg_node::{NodeStart, ResolvedSeeds, Served, Settings, run_node};
 use lg_testing::{Room, at, letter, local};
 use lg_timing::Config;
 use std::alloc::Global;
@@ -37,6 +37,8 @@ where
     let settings = Settings {
         bind: config.addr,
         seeds: ArrayVec::new(),
+        learns: false,
+        resolve_ms: 60_000,
         shown_seeds: ArrayVec::new(),
         dice: 1,
         pull_ms: 0,
@@ -48,6 +50,7 @@ where
         keys: None,
     };
     let stop = AtomicBool::new(false);
+    let resolved = ResolvedSeeds::new();
     let mut unread = Room::failing(0);
     let start = NodeStart {
         loops: NodeLoops,
@@ -55,6 +58,7 @@ where
         settings: &settings,
         until: at(0),
         stop: &stop,
+        resolved: &resolved,
     };
     let ran = run_node(rt, alloc, &start, &mut unread, faults);
     ran.ok()?.served

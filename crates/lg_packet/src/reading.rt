@@ -45,6 +45,7 @@ fn cut_name_fault(text: &[u8]) -> Fault
 /// The bytes that are still to be read.
 #[derive(Drop)]
 pub(crate) struct Reader<'a> {
+    /// Behind an error they are of no use: some may have been read.
     pub(crate) rest: &'a [u8],
 }
 

@@ -4,6 +4,7 @@ pub mod Examples
 pub mod FirstExamples
 pub mod FirstNumber
 pub mod KeyTelling
+pub mod OwnAddress
 pub mod Reporting
 pub mod Running
 pub mod Telling

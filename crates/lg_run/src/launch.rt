@@ -1,34 +1,39 @@
-//! Runs a node from the bytes of its file and options: checks what they mean, runs the node, writes its members, and
-//! tells how it ended. The functions stand in this order.
+//! Runs a node from the bytes of its file and options: checks what they mean, finds its own address if that is to be
+//! found, runs the node, writes its members, and tells how it ended. The functions stand in this order.
 //!
 //! Defined in: `specs/Meaning/Running.antt`, `specs/Meaning/Telling.antt`, `lg_text/specs/Meaning/Running.antt`.
 //! Tested in: `cases/node.case`, `lg_command_tests/src/launch/ends.rt`.
 ghost use Rattle.std.specs.Prelude.{◌≡◌, ◌⊎◌, ℕ, List, [], Err, OnErr, OnOk, string_bytes};
 ghost use Rattle.std.specs.Option.{option_map};
-ghost use Rattle.lg_config.specs.Meaning.Options.{source_of};
-ghost use Rattle.lg_run.specs.Meaning.Running.{node_settings, table_wished, Announces, IsSecond, RunsBytes, Writes};
+ghost use Rattle.lg_timing.specs.Meaning.Config.{IsChecked};
+ghost use Rattle.lg_config.specs.Meaning.Options.{options_of, source_of};
+ghost use Rattle.lg_run.specs.Meaning.Running.{node_settings, table_wished, Announces, IsSecond, RunsBytes};
+ghost use Rattle.lg_run.specs.Meaning.Running.{RunsStarted, TellsNoAddress, Writes};
 ghost use Rattle.lg_run.specs.Meaning.Reporting.{ReportsBoth};
 ghost use Rattle.lg_run.specs.Meaning.Telling.{line_of, status_told};
 ghost use Rattle.lg_run.specs.Meaning.Words.{link_reason, start_line};
 
 use crate::first::{started_at, system_time};
 use crate::key_file::{keys_at, tell_no_keys};
+use crate::own_address::{NoAddress, with_own_address};
 use crate::reporting::{tell, tell_both, tell_fault};
+use crate::resolving::resolved_seeds;
 use crate::telling::table_of;
 use crate::told::Told;
 use crate::wishes::{Wishes, end_wished, is_announced};
-use crate::words::{link_reason, start_line};
+use crate::words::{link_reason, start_line, unfound_reason};
 use arrayvec::ArrayVec;
-use lg_config::{NodeConfig, ReadFault};
+use lg_config::{Given, NodeConfig, ReadFault};
 use lg_lines::put_table;
 use lg_loops::NodeLoops;
 use lg_node::{NodeEnd, NodeFault, NodeStart, Settings, run_node};
+use lg_resolve::FaultStreams;
 use lg_rules::{Addr, Record};
 use lg_seal::Keys;
 use lg_text::{FaultStream, RunFault, report, write_text};
 use std::alloc::{AllocError, Global};
 use std::io::{ErrorKind, Write};
-use std::net::Net;
+use std::net::{Net, TcpListener, TcpStream};
 use std::random::RandomSource;
 use std::rt;
 use std::rt::Files;
@@ -44,6 +49,17 @@ use std::thread::Threads;
 /// key file that gives no keys is told by [`Told::Key`], and a second line says why: it can't be read, it is no regular
 /// file, it belongs to another user, others than its owner may use it, or it spells no keys. At most 131 bytes of it
 /// are read. No contract can say what it holds. In all these cases nothing is run or written.
+///
+/// If `address` is `auto`, the node's own address is the one from which this machine reaches the first seed that
+/// resolves and that it reaches. No packet is sent for this, and the machine's resolver is waited for if seeds are
+/// hosts. The address is told on `faults` in a line. If there is none, that is told by [`Told::Link`], and a second
+/// line says why. If it is one of IPv6 and `wire` isn't 3, that is told as other faults of a configuration are. In both
+/// cases nothing is run or written.
+///
+/// If hosts are among the seeds, a thread of its own resolves them while the node runs
+/// ([`start_resolving`](lg_resolve::start_resolving)), and tells on the machine's own stream of faults which don't
+/// resolve. It isn't joined, so a resolver that hangs holds up nothing. Memory or a thread that is refused for it is
+/// told by [`Told::Memory`], and nothing is run.
 ///
 /// A node that follows, or that no time ends, is announced by a line on `faults` before it starts: who runs where, with
 /// which file if one is named, in which version it writes its packets, and how many seeds it has. Memory that is
@@ -68,7 +84,8 @@ pub fn run_bytes<R, W, F>(
     faults: &mut F,
 ) -> u8
 where
-    R: Wait + Threads + Net + rt::Clock + Files + RandomSource + Sync,
+    R: AllocGlobal + Wait + Threads + rt::Clock + Files + RandomSource + FaultStreams,
+    R: Net<Listener = TcpListener, Stream = TcpStream> + Copy + Send + Sync + 'static,
     W: Write + Send,
     F: FaultStream + Send,
     ensures { RunsBytes writer.old writer.new (W.contents writer.old) (W.contents writer.new)
@@ -77,10 +94,54 @@ where
 {
     let given = wishes.source.given;
     let node = match NodeConfig::read(alloc, bytes, given) {
-        Ok(node) => started_at(system_time(rt), node),
+        Ok(node) => node,
         Err(ReadFault::NoMemory) => return tell(Told::Memory, faults),
         Err(ReadFault::File(fault)) => return tell_fault(alloc, bytes, given, fault, faults),
     };
+    match with_own_address(rt, alloc, node, faults) {
+        Ok(node) => run_found(rt, alloc, node, wishes, writer, faults),
+        Err(none) => tell_no_address(alloc, bytes, given, none, faults),
+    }
+}
+
+/// Reports why a node has no address of its own in two lines, and gives the status. If memory for the second is
+/// refused, only the first is reported.
+fn tell_no_address<F: FaultStream>(
+    alloc: Global,
+    bytes: &[u8],
+    given: &[Given<'_>],
+    none: NoAddress,
+    faults: &mut F,
+) -> u8
+    ensures { TellsNoAddress (F.reported faults.old) (F.reported faults.new) (options_of given.now) bytes.now none
+        result }
+{
+    match none {
+        NoAddress::Unfound => tell_both(Told::Link, unfound_reason(), faults),
+        NoAddress::Fault(fault) => tell_fault(alloc, bytes, given, fault, faults),
+    }
+}
+
+/// Runs the node of a configuration whose own address is known, as [`run_bytes`] says.
+fn run_found<R, W, F>(
+    rt: &R,
+    alloc: Global,
+    node: NodeConfig,
+    wishes: &Wishes<'_>,
+    writer: &mut W,
+    faults: &mut F,
+) -> u8
+where
+    R: AllocGlobal + Wait + Threads + rt::Clock + Files + RandomSource + FaultStreams,
+    R: Net<Listener = TcpListener, Stream = TcpStream> + Copy + Send + Sync + 'static,
+    W: Write + Send,
+    F: FaultStream + Send,
+    requires { IsChecked node.config }
+    ensures { RunsStarted writer.old writer.new (W.contents writer.old) (W.contents writer.new)
+        (F.reported faults.old) (F.reported faults.new) (source_of wishes.now.source).file node
+        wishes.now.until wishes.now.follow result }
+{
+    let node = started_at(system_time(rt), node);
     let keys = match keys_at(rt, alloc, &node.key_file) {
         Ok(keys) => keys,
         Err(fault) => {
@@ -88,7 +149,13 @@ where
             return tell_no_keys(fault, faults);
         }
     };
+    let Ok(resolved) = resolved_seeds(rt, alloc, &node) else {
+        drop(keys);
+        drop(node);
+        return tell(Told::Memory, faults);
+    };
     let Ok(()) = announce(alloc, wishes, &node, faults) else {
+        drop(resolved);
         drop(keys);
         drop(node);
         return tell(Told::Memory, faults);
@@ -100,11 +167,13 @@ where
         settings: &settings,
         until: end_wished(wishes.until),
         stop: wishes.stop,
+        resolved: &resolved,
     };
     let ran = run_node(rt, alloc, &start, writer, faults);
     let written = write_table(alloc, &ran, wishes.follow, writer);
     let status = tell_run(alloc, &node, &ran, Told::of(&ran, written), faults);
     drop(ran);
+    drop(resolved);
     drop(settings);
     drop(node);
     status
@@ -119,6 +188,8 @@ fn settings_of(node: &NodeConfig, keys: Option<Keys>, follow: bool) -> Settings
     Settings {
         bind: node.bound_at(),
         seeds: node.asked(),
+        learns: !node.hosts().is_empty(),
+        resolve_ms: node.resolve_ms,
         shown_seeds,
         dice: node.dice,
         pull_ms: node.pull_ms,

@@ -1,12 +1,12 @@
-//! The lines in words: who starts, why a socket can't be bound, why a file can't be read, and why a status server ended
-//! early.
+//! The lines in words: who starts, which address was found, why a socket can't be bound, why a file can't be read, and
+//! why a status server ended early.
 //!
 //! Defined in: `specs/Meaning/Words.antt`.
 //! Tested in: `lg_command_tests/src/launch/starts.rt`, `cases/node.case`.
 ghost use Rattle.std.specs.Prelude.{◌≡◌, IfOk, string_bytes};
 ghost use Rattle.lg_run.specs.Meaning.Words.{bind_words, link_reason, read_reason, read_words};
 ghost use Rattle.std.specs.Option.{option_map};
-ghost use Rattle.lg_run.specs.Meaning.Words.{file_words, seed_count, start_line};
+ghost use Rattle.lg_run.specs.Meaning.Words.{auto_line, file_words, seed_count, start_line, unfound_reason};
 
 use lg_check::{addr_text, text_of_name};
 use lg_config::NodeConfig;
@@ -51,6 +51,22 @@ pub(crate) fn start_line(
     let name = text_of_name(&node.config.name);
     let wire = node.config.wire;
     format!(in alloc; "lg: {name} at {addr}, {file}, wire {wire}, {seeds}\n")
+}
+
+/// The line that says which address of its own a node found. Allocates the line; the only error is that memory was
+/// refused.
+pub(crate) fn auto_line(alloc: Global, addr: Addr) -> Result<String, AllocError>
+    ensures { IfOk result (λ text. string_bytes text ≡ auto_line addr) }
+{
+    let addr = addr_text(alloc, addr)?;
+    format!(in alloc; "lg: the address auto is {addr}\n")
+}
+
+/// The reason of a node whose address of its own wasn't found, as a line.
+pub(crate) fn unfound_reason() -> &'static str
+    ensures { result.now ≡ unfound_reason }
+{
+    "the address auto wasn't found: no seed resolves to an address that this machine reaches\n"
 }
 
 /// Why an address can't be bound.

@@ -5,6 +5,7 @@ pub mod Keyed
 pub mod NodeLinks
 pub mod Words
 pub mod Turns
+pub mod Resolving
 pub mod Leaving
 pub mod Pulling
 pub mod Pausing
@@ -13,4 +14,5 @@ pub mod Asking
 pub mod Examples
 pub mod PullingExamples
 pub mod PausingExamples
+pub mod ResolvingExamples
 pub mod LeavingExamples

@@ -12,6 +12,7 @@ mod link;
 mod loops;
 mod node_link;
 mod plan;
+mod resolved;
 mod shared;
 mod udp;
 
@@ -22,6 +23,7 @@ pub use keyed::{Counted, KeyedLink};
 pub use link::{Link, LinkFault, MAX_DATAGRAM};
 pub use loops::{ReceivingLoop, SeedAsker, TickingLoop};
 pub use node_link::{NodeLink, NotedLink};
-pub use plan::Plan;
+pub use plan::{MAX_ASKED, Plan};
+pub use resolved::{MAX_FOUND, ResolvedSeeds};
 pub use shared::{MAX_TURNS, Shared, Side};
 pub use udp::UdpLink;

@@ -46,15 +46,19 @@ pub trait TickingLoop {
     /// is set or its end time comes. Meanwhile it finds its group, as the plan says.
     ///
     /// A turn makes one tick if a deadline has come. Otherwise it does the first of these that is to be done:
-    /// 1. It asks a seed that waits for this, with a Pull.
-    /// 2. It looks at the members, once in [`LOOK_MS`](crate::LOOK_MS) milliseconds. If no Page was heard so far, or
-    ///    each other member that it knows is gone, all seeds wait to be asked.
-    /// 3. It asks a seed and a member in turn for a table, the seed first. The seeds take turns among each other. A
+    /// 1. If hosts are among the seeds, and it was told which addresses they have, it learns these. They are seeds
+    ///    then, in the place of those that it learned before.
+    /// 2. It asks a seed that waits for this, with a Pull.
+    /// 3. It looks at the members, once in [`LOOK_MS`](crate::LOOK_MS) milliseconds, and at once when it has learned
+    ///    addresses. If no Page was heard so far, or each other member that it knows is gone, all seeds wait to be
+    ///    asked.
+    /// 4. It asks a seed and a member in turn for a table, the seed first. The seeds take turns among each other. A
     ///    member is one that random words choose of all that it knows, gone ones too; if it knows nobody, nobody is
-    ///    asked. It does so one interval after it began, or after a look by which all seeds waited. Each further time
-    ///    comes twice as long after the one before, but at most `plan.pull_ms` milliseconds after it.
-    /// 4. It pauses, until the first of these is due or its end time comes, `shared.pause_ms` milliseconds at most. The
-    ///    pause ends early if a nearer deadline is told, or that it is to stop (`shared.deadlines`).
+    ///    asked. It does so one interval after it began, after a look by which all seeds waited, or after it learned
+    ///    addresses. Each further time comes twice as long after the one before, but at most `plan.pull_ms`
+    ///    milliseconds after it.
+    /// 5. It pauses, until the first of these is due or its end time comes, `shared.pause_ms` milliseconds at most. The
+    ///    pause ends early if a nearer deadline is told, or that it is to stop or to learn (`shared.deadlines`).
     ///
     /// A look that is refused is put off to its next time. It allocates memory for 256 records.
     ///

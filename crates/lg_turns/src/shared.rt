@@ -7,6 +7,7 @@ ghost use Rattle.lg_turns.specs.Meaning.Turns.{unstarted};
 
 use crate::changes::ChangeSignal;
 use crate::ending::{Ended, LoopEnd, Why};
+use crate::resolved::ResolvedSeeds;
 use left_right::Absorb;
 use lg_agent::{AgentName, Pass};
 use lg_clock::DeadlineSignal;
@@ -56,8 +57,10 @@ pub struct Shared<'a, R, C> {
     /// How long one turn of the ticking loop pauses at most, in milliseconds.
     pub pause_ms: u64,
     /// By which a pause of the ticking loop ends early. The receiving loop tells it the deadlines of its replies, and
-    /// that the loop is to stop.
+    /// that the loop is to stop. Who resolves hosts tells it that there are addresses to learn.
     pub deadlines: &'a DeadlineSignal,
+    /// Which addresses the hosts among the seeds were found to have.
+    pub resolved: &'a ResolvedSeeds,
 }
 
 impl<'a, R: Wait, C> Shared<'a, R, C> {

@@ -9,6 +9,9 @@ use Rattle.lg_rules.specs.Meaning.Claim.{is_gone}
 use Rattle.lg_timing.specs.declared.config.Config.{Config}
 use Rattle.lg_timing.specs.declared.keys.Key.{Key}
 use Rattle.lg_timing.specs.Meaning.Keys.{key_name, keys, number_of_key}
+use Rattle.lg_config.specs.declared.host.Host.{Host}
+use Rattle.lg_config.specs.declared.host.Place.{Place}
+use Rattle.lg_config.specs.declared.host.Place.TheVariants as place
 use Rattle.lg_config.specs.declared.seeds.SeedPlace.{SeedPlace}
 use Rattle.lg_answers.specs.declared.snapshot.NodeNumber.{NodeNumber}
 use Rattle.lg_answers.specs.declared.snapshot.ShownConfig.{ShownConfig}
@@ -89,9 +92,19 @@ leaving_field may_end = codes ",\"leave\":" ++ truth_text may_end
 unfoldable pub bind_field : Addr → List ℕ
 bind_field addr = codes ",\"bind\":\"" ++ addr_text addr ++ codes "\""
 
--- {"name":NAME,"address":"ADDRESS","port":PORT}: a seed without a name has the same fields as one with a name
+-- "address":"HOST","port":PORT: the name of a host stands in place of an address, and has no byte that needs an escape
+unfoldable pub host_fields : Host → List ℕ
+host_fields host = codes "\"address\":\"" ++ (host.name ++ (codes "\",\"port\":" ++ decimal host.port))
+
+-- the fields of a place: those of an address, or of a host
+abbrev pub place_fields : Place → List ℕ
+place_fields (place.Addr addr) = address_fields addr
+place_fields (place.Host host) = host_fields host
+
+-- {"name":NAME,"address":"ADDRESS","port":PORT}: a seed without a name has the same fields as one with a name, and one
+-- at a host as one at an address
 unfoldable pub seed_json : SeedPlace → List ℕ
-seed_json seed = codes "{\"name\":" ++ name_value seed.name ++ codes "," ++ address_fields seed.addr ++ codes "}"
+seed_json seed = codes "{\"name\":" ++ name_value seed.name ++ codes "," ++ place_fields seed.place ++ codes "}"
 
 -- {"name":"NAME","address":"ADDRESS","port":PORT, the numbers of the member and of the node's own,
 -- "group":GROUP,"status":STATUS,"status_open":OPEN,"leave":LEAVE,"bind":"ADDRESS:PORT","seeds":[..]}

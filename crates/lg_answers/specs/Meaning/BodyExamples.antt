@@ -7,10 +7,11 @@ use Rattle.lg_rules.specs.declared.claim.Claim.{Claim}
 use Rattle.lg_rules.specs.declared.claim.Status.{Status}
 use Rattle.lg_rules.specs.declared.claim.Status.TheVariants as status
 use Rattle.lg_text.specs.Meaning.AddressExamples.{on_addresses}
+use Rattle.lg_config.specs.declared.host.Place.TheVariants as place
 use Rattle.lg_config.specs.declared.seeds.SeedPlace.{SeedPlace}
 use Rattle.lg_answers.specs.declared.route.StatusKind.TheVariants.{Alive}
-use Rattle.lg_answers.specs.Meaning.Bodies.{bind_field, error_body, health_counts, leaving_field, live_among}
-use Rattle.lg_answers.specs.Meaning.Bodies.{number_field, open_field, seed_json, status_field}
+use Rattle.lg_answers.specs.Meaning.Bodies.{bind_field, error_body, health_counts, host_fields, leaving_field}
+use Rattle.lg_answers.specs.Meaning.Bodies.{live_among, number_field, open_field, seed_json, status_field}
 use Rattle.lg_answers.specs.Meaning.Members.{address_fields, comma_separated, member_body, member_fields, member_json}
 use Rattle.lg_answers.specs.Meaning.Members.{members_asked, members_front_of, moment_front}
 use Rattle.lg_answers.specs.Meaning.Metrics.{drops_sample, kind_line, members_lines, metric_head, seconds_text}
@@ -19,9 +20,9 @@ use Rattle.lg_answers.specs.Meaning.Page.{live_words, member_row, name_cells, ro
 
 -- what the rows have to unfold
 unfoldable by_writing : ⊤
-unfolding digits address_fields bind_field drops_sample kind_line leaving_field live_words member_body member_fields
-    member_json member_row members_front_of members_lines metric_head moment_front name_cells open_field row_front
-    seed_json status_cells status_field status_line summary_text
+unfolding digits address_fields bind_field drops_sample host_fields kind_line leaving_field live_words member_body
+    member_fields member_json member_row members_front_of members_lines metric_head moment_front name_cells open_field
+    row_front seed_json status_cells status_field status_line summary_text
 by_writing = tt
 
 abbrev at : ℕ → Addr
@@ -113,11 +114,11 @@ unfolding by_writing
 a_number = refl
 
 abbrev seed_a : SeedPlace
-seed_a = record { name = Some (codes "a"); addr = at 7101 }
+seed_a = record { name = Some (codes "a"); place = place.Addr (at 7101) }
 
 -- a seed without a name, over IPv6
 abbrev seed_of_nobody : SeedPlace
-seed_of_nobody = record { name = None; addr = d.addr }
+seed_of_nobody = record { name = None; place = place.Addr d.addr }
 
 a_seed : seed_json seed_a ≡ codes "{\"name\":\"a\",\"address\":\"127.0.0.1\",\"port\":7101}"
 unfolding by_writing
@@ -128,6 +129,12 @@ two_seeds : comma_separated seed_json (seed_of_nobody ∷ seed_a ∷ [])
     ++ codes "{\"name\":\"a\",\"address\":\"127.0.0.1\",\"port\":7101}"
 unfolding by_writing on_addresses
 two_seeds = refl
+
+-- a seed at a host has its name in place of an address
+seed_at_host : seed_json (record { name = None; place = place.Host (record { name = codes "a.b"; port = 7946 }) })
+    ≡ codes "{\"name\":null,\"address\":\"a.b\",\"port\":7946}"
+unfolding by_writing
+seed_at_host = refl
 
 bound_at_7102 : leaving_field true ++ bind_field (at 7102) ≡ codes ",\"leave\":true,\"bind\":\"127.0.0.1:7102\""
 unfolding by_writing

@@ -25,4 +25,4 @@ reason_text NoName = codes "a name has to be 1 to 32 bytes of A-Z a-z 0-9 . _ -"
 reason_text NoQuery = codes "this path takes no query"
 reason_text BadStatus = codes "the query has to be status=alive, status=suspect, status=failed or status=left"
 reason_text BadChanges =
-    codes "the query has to be after=V&wait_ms=W, with V of 1 to 16 digits and W 0 to 30000"
+    codes "the query takes after=V and wait_ms=W, each at most once, with V of 1 to 16 digits and W 0 to 30000"

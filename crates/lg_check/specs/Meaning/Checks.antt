@@ -1,7 +1,7 @@
 -- What a check of a configuration writes: a line for each key, and a line for each of four sizes of a group (this
 -- project's choice).
-use Rattle.std.specs.Prelude.{ℕ, ◌==◌, Bool, true, false, not, List, [], ◌∷◌, ◌++◌, Option, is_none, codes, decimal}
-use Rattle.std.specs.Prelude.{length}
+use Rattle.std.specs.Prelude.{ℕ, ◌==◌, Bool, true, false, not, List, [], ◌∷◌, ◌++◌, Option, None, Some, is_none}
+use Rattle.std.specs.Prelude.{codes, decimal, length, if◌then◌else◌}
 use Rattle.std.specs.List.{flat_map}
 use Rattle.std.specs.Str.{bytes_eq}
 use Rattle.lg_rules.specs.declared.addr.Addr.{Addr}
@@ -35,17 +35,32 @@ key_line key value usual = key ++ (codes " = " ++ (value ++ (default_mark usual 
 abbrev pub number_line : List ℕ → ℕ → ℕ → List ℕ
 number_line key number usual = key_line key (decimal number) (number == usual)
 
+-- the line of the member's address, which is a word if it is to be found
+abbrev pub address_line : NodeConfig → List ℕ
+address_line node =
+    if node.auto then key_line (codes "address") (codes "auto") false
+    else key_line (codes "address") (ip_text node.config.addr.ip)
+    (bytes_eq (ip_text node.config.addr.ip) default_address)
+
 -- the lines of the member's name and its address
-abbrev pub address_lines : Config → List ℕ
-address_lines c =
-    key_line (codes "name") c.name false
-    ++ key_line (codes "address") (ip_text c.addr.ip) (bytes_eq (ip_text c.addr.ip) default_address)
+abbrev pub address_lines : NodeConfig → List ℕ
+address_lines node = key_line (codes "name") node.config.name false ++ address_line node
 
 -- the line of where the node's socket is bound; the default is the member's address and port
-abbrev pub bind_line : NodeConfig → List ℕ
-bind_line node =
+abbrev pub bound_line : NodeConfig → List ℕ
+bound_line node =
     let bound = bound_at node in
     key_line (codes "bind") (addr_text bound) (is_same_addr bound node.config.addr)
+
+-- the same of a member whose address is to be found, by what its file says, and by its port
+abbrev pub unfound_bind_line : Option Addr → ℕ → List ℕ
+unfound_bind_line None port = key_line (codes "bind") (codes "auto:" ++ decimal port) true
+unfound_bind_line (Some addr) port = key_line (codes "bind") (addr_text addr) false
+
+-- the same, by whether it is to be found
+abbrev pub bind_line : NodeConfig → List ℕ
+bind_line node =
+    if node.auto then unfound_bind_line node.bind node.config.addr.port else bound_line node
 
 -- the lines of the member's port, of where the socket is bound, of the dice and of the seeds
 abbrev pub start_lines : NodeConfig → List ℕ
@@ -103,7 +118,7 @@ group_sizes = 4 ∷ 16 ∷ 64 ∷ 256 ∷ []
 -- all lines: the keys that a file may have, in the order of the documents, then the sizes of a group
 unfoldable pub check_text : NodeConfig → List ℕ
 check_text node =
-    address_lines node.config ++ start_lines node
+    address_lines node ++ start_lines node
     ++ flat_map (member_line node.config) file_keys ++ flat_map (own_line node) node_keys
     ++ server_lines node ++ leave_line node.leave ++ key_file_line node.key_file ++ group_name_line node.config.group
     ++ flat_map (group_line node.config) group_sizes

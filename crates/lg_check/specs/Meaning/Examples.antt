@@ -9,8 +9,9 @@ use Rattle.lg_timing.specs.Meaning.Config.{defaults}
 use Rattle.lg_timing.specs.Meaning.Tables.{log10_of, ratio_of}
 use Rattle.lg_timing.specs.Meaning.Timeouts.{range_of, timeout_of}
 use Rattle.sha2.specs.Sha256.{compress, digest_bytes, first_words, hash_after, rounds, schedule, sha256}
+use Rattle.lg_config.specs.declared.host.Place.TheVariants as place
 use Rattle.lg_config.specs.declared.node.NodeConfig.{NodeConfig}
-use Rattle.lg_config.specs.declared.node_keys.NodeKey.TheVariants.{PullMs, StallMs}
+use Rattle.lg_config.specs.declared.node_keys.NodeKey.TheVariants.{PullMs, ResolveMs, StallMs}
 use Rattle.lg_config.specs.Meaning.Dice.{own_dice}
 use Rattle.lg_check.specs.Meaning.Checks.{key_file_line, address_lines, group_line, member_line, own_line, server_lines}
 use Rattle.lg_check.specs.Meaning.Checks.{bind_line, group_name_line, leave_line, start_lines}
@@ -35,6 +36,8 @@ usual =
       dice = 2189494717179526441;
       pull_ms = 30000;
       stall_ms = 100;
+      resolve_ms = 60000;
+      auto = false;
       status = None;
       status_open = false;
       key_file = None;
@@ -65,15 +68,33 @@ group-256 :
 unfolding on_checks
 group-256 = refl
 
-name-and-address : address_lines b-by-default ≡ codes "name = b\naddress = 127.0.0.1 (default)\n"
+name-and-address : address_lines usual ≡ codes "name = b\naddress = 127.0.0.1 (default)\n"
 unfolding on_checks
 name-and-address = refl
 
 other-address :
-    address_lines (record b-by-default { addr = addr_of (10 ∷ 0 ∷ 0 ∷ 7 ∷ []) 1 })
+    address_lines (record usual { config = record b-by-default { addr = addr_of (10 ∷ 0 ∷ 0 ∷ 7 ∷ []) 1 } })
     ≡ codes "name = b\naddress = 10.0.0.7\n"
 unfolding on_checks
 other-address = refl
+
+-- the member b whose address is to be found
+abbrev unfound : NodeConfig
+unfound = record usual { config = record b-by-default { addr = addr_of (0 ∷ 0 ∷ 0 ∷ 0 ∷ []) 7001 }; auto = true }
+
+unfound-address : address_lines unfound ≡ codes "name = b\naddress = auto\n"
+unfolding on_checks
+unfound-address = refl
+
+-- it is bound where it is found, unless the file says where
+bound-where-found : bind_line unfound ≡ codes "bind = auto:7001 (default)\n"
+unfolding on_checks
+bound-where-found = refl
+
+bound-anywhere :
+    bind_line (record unfound { bind = Some (addr_of (0 ∷ 0 ∷ 0 ∷ 0 ∷ []) 7001) }) ≡ codes "bind = 0.0.0.0:7001\n"
+unfolding on_checks
+bound-anywhere = refl
 
 start :
     start_lines usual
@@ -96,11 +117,20 @@ bound-there = refl
 
 two-seeds :
     seeds_spelled
-    (record { name = Some (97 ∷ []); addr = addr_of (127 ∷ 0 ∷ 0 ∷ 1 ∷ []) 7101 }
-    ∷ record { name = None; addr = addr_of (1 ∷ 2 ∷ 3 ∷ 4 ∷ []) 5 } ∷ [])
+    (record { name = Some (97 ∷ []); place = place.Addr (addr_of (127 ∷ 0 ∷ 0 ∷ 1 ∷ []) 7101) }
+    ∷ record { name = None; place = place.Addr (addr_of (1 ∷ 2 ∷ 3 ∷ 4 ∷ []) 5) } ∷ [])
     ≡ codes "a@127.0.0.1:7101, 1.2.3.4:5"
 unfolding on_checks
 two-seeds = refl
+
+-- a host stands as it is written, with its port
+seeds-at-hosts :
+    seeds_spelled
+    (record { name = None; place = place.Host (record { name = codes "DB.example"; port = 7946 }) }
+    ∷ record { name = Some (97 ∷ []); place = place.Host (record { name = codes "c"; port = 1 }) } ∷ [])
+    ≡ codes "DB.example:7946, a@c:1"
+unfolding on_checks
+seeds-at-hosts = refl
 
 default-interval : member_line b-by-default IntervalMs ≡ codes "interval_ms = 1000 (default)\n"
 unfolding on_checks
@@ -137,6 +167,10 @@ no-pulls = refl
 default-stall : own_line usual StallMs ≡ codes "stall_ms = 100 (default)\n"
 unfolding on_checks
 default-stall = refl
+
+default-resolving : own_line usual ResolveMs ≡ codes "resolve_ms = 60000 (default)\n"
+unfolding on_checks
+default-resolving = refl
 
 no-server : server_lines usual ≡ codes "status = none (default)\nstatus_open = false (default)\n"
 unfolding on_checks

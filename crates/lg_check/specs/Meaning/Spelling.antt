@@ -1,21 +1,33 @@
 -- The values of a configuration as a check spells them (this project's choice).
-use Rattle.std.specs.Prelude.{ℕ, Bool, true, false, List, [], ◌∷◌, ◌++◌, Option, None, Some, codes}
+use Rattle.std.specs.Prelude.{ℕ, Bool, true, false, List, [], ◌∷◌, ◌++◌, Option, None, Some, codes, decimal}
 use Rattle.std.specs.List.{flat_map}
 use Rattle.lg_rules.specs.declared.addr.Addr.{Addr}
+use Rattle.lg_config.specs.declared.host.Host.{Host}
+use Rattle.lg_config.specs.declared.host.Place.{Place}
+use Rattle.lg_config.specs.declared.host.Place.TheVariants as place
 use Rattle.lg_config.specs.declared.seeds.SeedPlace.{SeedPlace}
 use Rattle.lg_text.specs.Meaning.Addresses.{addr_text}
 
--- NAME@ADDRESS:PORT
-abbrev pub named_spelled : List ℕ → Addr → List ℕ
-named_spelled name addr = name ++ (codes "@" ++ addr_text addr)
+-- HOST:PORT
+abbrev pub host_text : Host → List ℕ
+host_text host = host.name ++ (codes ":" ++ decimal host.port)
 
--- the same of a seed, or ADDRESS:PORT if it has no name
-abbrev pub seed_spelled_by : Option (List ℕ) → Addr → List ℕ
-seed_spelled_by None addr = addr_text addr
-seed_spelled_by (Some name) addr = named_spelled name addr
+-- a place as it is written, with its port: ADDRESS:PORT or HOST:PORT
+abbrev pub place_text : Place → List ℕ
+place_text (place.Addr addr) = addr_text addr
+place_text (place.Host host) = host_text host
+
+-- NAME@PLACE
+abbrev pub named_spelled : List ℕ → Place → List ℕ
+named_spelled name found = name ++ (codes "@" ++ place_text found)
+
+-- the same of a seed, or PLACE if it has no name
+abbrev pub seed_spelled_by : Option (List ℕ) → Place → List ℕ
+seed_spelled_by None found = place_text found
+seed_spelled_by (Some name) found = named_spelled name found
 
 abbrev pub seed_spelled : SeedPlace → List ℕ
-seed_spelled seed = seed_spelled_by seed.name seed.addr
+seed_spelled seed = seed_spelled_by seed.name seed.place
 
 abbrev pub next_seed : SeedPlace → List ℕ
 next_seed seed = codes ", " ++ seed_spelled seed

@@ -55,7 +55,8 @@ abbrev pub latest_turn : Loop → List Reading → Option ℕ
 latest_turn loop [] = None
 latest_turn loop (r ∷ past) = if is_turn_of r.handed.turned loop then Some (turn_at r) else latest_turn loop past
 
--- the first turn, from that of the turns before a reading, if there were any, and from the one that began at the reading
+-- the first turn, from that of the turns before a reading, if there were any, and from the one that began at the
+-- reading
 abbrev pub first_of : Option ℕ → Option Loop → ℕ → Option ℕ
 first_of (Some first) turned moment = Some first
 first_of None (Some loop) moment = Some moment

@@ -1,6 +1,5 @@
 -- Worked command lines with options of keys.
-use Rattle.std.specs.Prelude.{◌≡◌, ℕ, List, [], ◌∷◌, None, Some, codes, map, refl, false}
-use Rattle.std.specs.Fmt.{digits}
+use Rattle.std.specs.Prelude.{◌≡◌, [], ◌∷◌, None, Some, codes, map, refl, false}
 use Rattle.clap.proofs.OnLiterals.{clap_on_literals}
 use Rattle.clap.specs.declared.error.kind.ErrorKind.TheVariants as kind
 use Rattle.lg_config.specs.Meaning.NearestKeys.{known_keys}
@@ -11,8 +10,8 @@ use Rattle.lg_command_line.specs.Meaning.KeyOptions.{option_name}
 names :
     map option_name known_keys
     ≡ codes "name" ∷ codes "address" ∷ codes "port" ∷ codes "dice" ∷ codes "pull-ms" ∷ codes "stall-ms"
-    ∷ codes "status" ∷ codes "status-open" ∷ codes "leave" ∷ codes "bind" ∷ codes "key-file" ∷ codes "group"
-    ∷ codes "seed" ∷ codes "interval-ms" ∷ codes "timeout-ms" ∷ codes "indirect" ∷ codes "max-score"
+    ∷ codes "resolve-ms" ∷ codes "status" ∷ codes "status-open" ∷ codes "leave" ∷ codes "bind" ∷ codes "key-file"
+    ∷ codes "group" ∷ codes "seed" ∷ codes "interval-ms" ∷ codes "timeout-ms" ∷ codes "indirect" ∷ codes "max-score"
     ∷ codes "alpha" ∷ codes "beta" ∷ codes "confirmations" ∷ codes "lambda" ∷ codes "nack-thousandths"
     ∷ codes "history-limit" ∷ codes "wire" ∷ codes "forget-ms" ∷ codes "gossip-ms" ∷ codes "gossip-to" ∷ []
 names = refl

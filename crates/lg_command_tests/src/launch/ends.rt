@@ -1,10 +1,10 @@
 //! Runs of nodes and of files, over writers that fail.
 use crate::ports::{free_port, with_port};
 use lg_config::Source as Origin;
-use lg_run::{Wishes, file_bytes, run_bytes, tell_no_bytes};
+use lg_run::{FaultStreams, Wishes, file_bytes, run_bytes, tell_no_bytes};
 use lg_testing::{Room, at};
 use std::alloc::{AllocError, Global};
-use std::net::Net;
+use std::net::{Net, TcpListener, TcpStream};
 use std::random::RandomSource;
 use std::rt::Files;
 use std::sync::Wait;
@@ -74,7 +74,8 @@ fn run<R>(
     fails_at: usize,
 ) -> Result<Outcome, AllocError>
 where
-    R: Wait + Threads + Net + rt::Clock + Files + RandomSource + Sync,
+    R: AllocGlobal + Wait + Threads + rt::Clock + Files + RandomSource + FaultStreams,
+    R: Net<Listener = TcpListener, Stream = TcpStream> + Copy + Send + Sync + 'static,
 {
     let (mut writer, mut faults) = (Room::failing(fails_at), Room::failing(0));
     let stop = AtomicBool::new(false);
@@ -103,7 +104,8 @@ const TRIES: usize = 10;
 /// Whether the run of a row at a free port ends as it should.
 fn ends_so<R>(rt: &R, alloc: Global, row: Row) -> io::Result<bool>
 where
-    R: Wait + Threads + Net + rt::Clock + Files + RandomSource + Sync,
+    R: AllocGlobal + Wait + Threads + rt::Clock + Files + RandomSource + FaultStreams,
+    R: Net<Listener = TcpListener, Stream = TcpStream> + Copy + Send + Sync + 'static,
 {
     let (source, fails_at, status, written, told) = row;
     let port = free_port(rt)?;
@@ -115,11 +117,11 @@ where
 /// What is told if the members can't be written.
 const UNWRITTEN: &str = "lg: write\nstandard output can't be written: nobody reads it\n";
 
-/// A node alone and a seeded one. An output that fails at its first byte, at a later one, and at the flush after the
-/// 33 bytes of the table. Files that can't be read or mean no configuration: no such file, a path that is none, an
-/// empty path, a folder, an empty file and one without an end. Key files that give none: no such file, a device, and a
-/// file that others than its owner can use.
-const ROWS: [Row; 14] = [
+/// A node alone and a seeded one. An output that fails at its first byte, at a later one, and at the flush after the 33
+/// bytes of the table. Files that can't be read or mean no configuration: no such file, a path that is none, an empty
+/// path, a folder, an empty file and one without an end. An address that isn't found. Key files that give none: no such
+/// file, a device, and a file that others than its owner can use.
+const ROWS: [Row; 15] = [
     (
         Bytes("name = \"b\"\nport = #"),
         0,
@@ -133,6 +135,13 @@ const ROWS: [Row; 14] = [
         0,
         "record a alive 0 127.0.0.1:17199\nrecord b alive 0 127.0.0.1:#\n",
         "",
+    ),
+    (
+        Bytes("name = \"b\"\nport = #\naddress = \"auto\"\nseeds = [\"255.255.255.255:17199\"]"),
+        0,
+        5,
+        "",
+        "lg: link\nthe address auto wasn't found: no seed resolves to an address that this machine reaches\n",
     ),
     (Bytes("name = \"b\"\nport = #"), 1, 1, "", UNWRITTEN),
     (Bytes("name = \"b\"\nport = #"), 4, 1, "rec", UNWRITTEN),

@@ -4,7 +4,7 @@ ghost use Rattle.lg_timing.specs.Meaning.Config.{IsChecked};
 use arrayvec::ArrayVec;
 use lg_agent::{CloseFault, Refusal};
 use lg_loops::NodeLoops;
-use lg_node::{NodeEnd, NodeFault, NodeStart, Settings, Why, run_node};
+use lg_node::{NodeEnd, NodeFault, NodeStart, ResolvedSeeds, Settings, Why, run_node};
 use lg_rules::{Addr, Name};
 use lg_run::Told;
 use lg_testing::{Room, at};
@@ -195,6 +195,8 @@ where
     let settings = Settings {
         bind: config(0).addr,
         seeds: ArrayVec::new(),
+        learns: false,
+        resolve_ms: 60_000,
         shown_seeds: ArrayVec::new(),
         dice: 1,
         pull_ms: 0,
@@ -206,6 +208,7 @@ where
         keys: None,
     };
     let stop = AtomicBool::new(false);
+    let resolved = ResolvedSeeds::new();
     let mut unread = Room::failing(0);
     let mut untold = Room::failing(0);
     let start = NodeStart {
@@ -214,6 +217,7 @@ where
         settings: &settings,
         until: at(0),
         stop: &stop,
+        resolved: &resolved,
     };
     run_node(rt, alloc, &start, &mut unread, &mut untold)
 }

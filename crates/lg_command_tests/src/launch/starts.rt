@@ -1,10 +1,10 @@
 //! What is announced of a node before it starts.
 use crate::ports::{free_port, with_port};
 use lg_config::{Given, Source};
-use lg_run::{Wishes, run_bytes};
+use lg_run::{FaultStreams, Wishes, run_bytes};
 use lg_testing::{Room, at};
 use std::alloc::Global;
-use std::net::Net;
+use std::net::{Net, TcpListener, TcpStream};
 use std::random::RandomSource;
 use std::rt::Files;
 use std::sync::Wait;
@@ -44,8 +44,9 @@ const OPTIONS: Source<'static> = Source {
     ],
 };
 
-/// A node that a time ends is announced only if it follows.
-const ROWS: [Row; 5] = [
+/// A node that a time ends is announced only if it follows. The address that is found towards a seed on loopback is
+/// loopback, and it is told whether the node is announced or not.
+const ROWS: [Row; 8] = [
     (FILE, "", Some(1), false, ""),
     (
         FILE,
@@ -75,12 +76,34 @@ const ROWS: [Row; 5] = [
         false,
         "lg: b at 127.0.0.1:#, no file, wire 3, 1 seed\n",
     ),
+    (
+        FILE,
+        "address = \"auto\"\nseeds = [\"127.0.0.1:17199\"]",
+        Some(1),
+        false,
+        "lg: the address auto is 127.0.0.1:#\n",
+    ),
+    (
+        FILE,
+        "address = \"auto\"\nseeds = [\"127.0.0.1:17199\"]",
+        None,
+        false,
+        "lg: the address auto is 127.0.0.1:#\nlg: b at 127.0.0.1:#, file b.toml, wire 1, 1 seed\n",
+    ),
+    (
+        FILE,
+        "seeds = [\"localhost:17199\", \"127.0.0.1:17198\"]",
+        None,
+        false,
+        "lg: b at 127.0.0.1:#, file b.toml, wire 1, 2 seeds\n",
+    ),
 ];
 
 /// Runs the node of a row at a free port. Returns whether it ended with status 0, and told what the row says.
 fn runs<R>(rt: &R, alloc: Global, row: Row) -> io::Result<bool>
 where
-    R: Wait + Threads + Net + rt::Clock + Files + RandomSource + Sync,
+    R: AllocGlobal + Wait + Threads + rt::Clock + Files + RandomSource + FaultStreams,
+    R: Net<Listener = TcpListener, Stream = TcpStream> + Copy + Send + Sync + 'static,
 {
     let (source, line, until, follow, told) = row;
     let port = free_port(rt)?;

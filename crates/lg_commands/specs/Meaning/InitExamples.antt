@@ -1,7 +1,7 @@
 -- Worked rows of the file that `init` writes.
-use Rattle.std.specs.Prelude.{◌≡◌, ℕ, ◌==◌, Bool, false, not, List, [], ◌∷◌, ◌++◌, codes, decimal, refl}
+use Rattle.std.specs.Prelude.{◌≡◌, ℕ, ◌==◌, Bool, true, false, not, List, [], ◌∷◌, ◌++◌, codes, decimal, refl}
 use Rattle.std.specs.Fmt.{digits}
-use Rattle.std.specs.List.{filter, list_any}
+use Rattle.std.specs.List.{filter, list_all, list_any}
 use Rattle.std.specs.Str.{bytes_eq}
 use Rattle.lg_timing.specs.declared.keys.Key.{Key}
 use Rattle.lg_timing.specs.declared.keys.Key.TheVariants.{First, ForgetMs, HistoryLimit, Wire}
@@ -29,3 +29,10 @@ has_default key =
 without-default : filter (λ key. not (has_default key)) keys ≡ HistoryLimit ∷ Wire ∷ ForgetMs ∷ First ∷ []
 unfolding digits
 without-default = refl
+
+-- the node's own numbers have their defaults in comments
+own-numbers :
+    list_all (λ line. list_any (bytes_eq line) init_lines)
+    (codes "# pull_ms = 30000" ∷ codes "# stall_ms = 100" ∷ codes "# resolve_ms = 60000" ∷ [])
+    ≡ true
+own-numbers = refl

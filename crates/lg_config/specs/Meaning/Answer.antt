@@ -1,9 +1,9 @@
 -- What reading a configuration answers: a file, and options that count in place of what it says. If there are several
 -- faults, the first of these counts: of the document, of its keys and their types, of the form of a value, of the
 -- configuration's own check, of the node's own numbers, of the status server, of the path of the key file. Of the
--- check's faults those with greater numbers than the node's own come behind all of these, and that of the group comes
--- last of them. Then come that of whether a request may end the node, that of where its socket is bound, and that its
--- packets can't tell its own address.
+-- check's faults those with greater numbers than that of the path come behind all of these, and that of the group comes
+-- last of them. Then come that of whether a request may end the node, that of where its socket is bound, that its
+-- packets can't tell its own address, and that this address is to be found without seeds.
 use Rattle.std.specs.Prelude.{ℕ, Bool, ◌&&◌, nat_le, nat_lt, List, length, Option, Some, None, Result, Ok, Err}
 use Rattle.std.specs.Prelude.{if◌then◌else◌, ◌≡◌, ◌≢◌, ◌⊎◌, [], true}
 use Rattle.std.specs.Option.{option_map}
@@ -26,12 +26,14 @@ use Rattle.lg_config.specs.Meaning.Binding.{bind_in, with_bind}
 use Rattle.lg_config.specs.Meaning.Bounds.{most_bytes}
 use Rattle.lg_config.specs.Meaning.Families.{unless_untold}
 use Rattle.lg_config.specs.Meaning.Faults.{fault_number}
+use Rattle.lg_config.specs.Meaning.Finding.{unless_unfindable}
 use Rattle.lg_config.specs.Meaning.Groups.{group_in, with_group}
 use Rattle.lg_config.specs.Meaning.KeyFiles.{key_file_in, with_key_file}
 use Rattle.lg_config.specs.Meaning.Keys.{are_right_keys}
 use Rattle.lg_config.specs.Meaning.Leaves.{leave_in, with_leave}
 use Rattle.lg_config.specs.Meaning.NodeKeys.{node_row_of, own_broken}
 use Rattle.lg_config.specs.Meaning.Options.{with_options, Options}
+use Rattle.lg_config.specs.Meaning.Seeds.{have_good_names}
 use Rattle.lg_config.specs.Meaning.Settings.{item_count, seeds_at, settings_of}
 use Rattle.lg_config.specs.Meaning.Status.{open_in, status_addr_in, with_status}
 
@@ -48,7 +50,7 @@ abbrev pub unless_broken : NodeConfig → Option NodeKey → Result NodeConfig F
 unless_broken node None = Ok node
 unless_broken node (Some key) = Err (node_row_of key).fault
 
--- whether a fault of the check counts only if nothing else is wrong: its number is greater than those of the node's own
+-- whether a fault of the check counts only if nothing else is wrong: its number is greater than that of the path
 abbrev pub is_late : ConfigFault → Bool
 is_late broken = nat_lt (fault_number fault.KeyFile) (config_fault_number broken)
 
@@ -59,23 +61,28 @@ unless_config node (Ok passed) = unless_broken node (own_broken node)
 unless_config node (Err broken) =
     if is_late broken then unless_broken node (own_broken node) else Err (fault.Config broken)
 
--- the fault of too many seeds, by what the check of the configuration with the first of them finds: a fault that is
+-- whether the seeds of a document go together, if there are so many: they are at most 16, all their names differ, those
+-- at hosts too, and none is the member's own
+abbrev pub go_together : ℕ → NodeConfig → Bool
+go_together count node = nat_le count most_seeds && have_good_names node.config.name node.seeds.items
+
+-- the fault of seeds that don't, by what the check of the configuration with the first of them finds: a fault that is
 -- looked for before the seeds, or else that of the seeds
-abbrev pub fault_of_many : Result (Unit {0}) ConfigFault → ConfigFault
-fault_of_many (Ok passed) = Seeds
-fault_of_many (Err broken) =
+abbrev pub fault_of_seeds : Result (Unit {0}) ConfigFault → ConfigFault
+fault_of_seeds (Ok passed) = Seeds
+fault_of_seeds (Err broken) =
     if nat_lt (config_fault_number broken) (config_fault_number Seeds) then broken else Seeds
 
 -- settings of a document with so many seeds, or their fault
-abbrev pub unless_many : ℕ → NodeConfig → Result NodeConfig FileFault
-unless_many count node =
-    if nat_lt most_seeds count then Err (fault.Config (fault_of_many (check_of node.config)))
-    else unless_config node (check_of node.config)
+abbrev pub unless_apart : ℕ → NodeConfig → Result NodeConfig FileFault
+unless_apart count node =
+    if go_together count node then unless_config node (check_of node.config)
+    else Err (fault.Config (fault_of_seeds (check_of node.config)))
 
 -- the same, or the fault that a value is out of its form
 abbrev pub unless_node : ℕ → Option NodeConfig → Result NodeConfig FileFault
 unless_node count None = Err fault.Value
-unless_node count (Some node) = unless_many count node
+unless_node count (Some node) = unless_apart count node
 
 -- what a document's settings mean, with the status server that it wants, or the fault that either has
 abbrev pub and_status : Members → Result NodeConfig FileFault → Result NodeConfig FileFault
@@ -116,6 +123,11 @@ abbrev pub and_told : Result NodeConfig FileFault → Result NodeConfig FileFaul
 and_told (Ok node) = unless_untold node
 and_told (Err found) = Err found
 
+-- the same, unless that is to be found without seeds
+abbrev pub and_findable : Result NodeConfig FileFault → Result NodeConfig FileFault
+and_findable (Ok node) = unless_unfindable node
+and_findable (Err found) = Err found
+
 -- what a document whose keys are right means, or its fault, but for those that count if nothing else is wrong
 abbrev pub early_meaning_of : Members → Result NodeConfig FileFault
 early_meaning_of members =
@@ -127,11 +139,14 @@ early_meaning_of members =
 abbrev pub late_meaning_of : Members → Result NodeConfig FileFault
 late_meaning_of members = and_late (and_group members (and_late (early_meaning_of members)))
 
+-- what a document whose keys are right means, or its fault
+abbrev pub right_meaning_of : Members → Result NodeConfig FileFault
+right_meaning_of members =
+    and_findable (and_told (and_bind members (and_leave members (late_meaning_of members))))
+
 -- what a document means, or the fault Key if its keys are wrong
 abbrev pub meaning_of : Members → Result NodeConfig FileFault
-meaning_of members =
-    if are_right_keys members then and_told (and_bind members (and_leave members (late_meaning_of members)))
-    else Err fault.Key
+meaning_of members = if are_right_keys members then right_meaning_of members else Err fault.Key
 
 -- what a file means, or the fault Syntax if it is no document
 abbrev pub unless_syntax : Option Members → Result NodeConfig FileFault

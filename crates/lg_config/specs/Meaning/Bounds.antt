@@ -14,6 +14,17 @@ most_pull_ms = 3600000
 abbrev pub most_stall_ms : ℕ
 most_stall_ms = 60000
 
+-- from one resolving of the hosts among the seeds to the next, in milliseconds: the least and the greatest time
+abbrev pub least_resolve_ms : ℕ
+least_resolve_ms = 1000
+
+abbrev pub most_resolve_ms : ℕ
+most_resolve_ms = 3600000
+
+-- the most bytes of the name of a host: those of a name in DNS, without its length bytes (RFC 1035, section 2.3.4)
+abbrev pub most_host_bytes : ℕ
+most_host_bytes = 253
+
 -- the most bytes of a path
 abbrev pub most_path_bytes : ℕ
 most_path_bytes = 255

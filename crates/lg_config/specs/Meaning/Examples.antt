@@ -12,6 +12,7 @@ use Rattle.lg_timing.specs.declared.config.ConfigFault.TheVariants.{Interval, La
 use Rattle.lg_timing.specs.Meaning.Config.{check_of, defaults}
 use Rattle.lg_config.specs.declared.fault.FileFault.{FileFault}
 use Rattle.lg_config.specs.declared.fault.FileFault.TheVariants as fault
+use Rattle.lg_config.specs.declared.host.Place.TheVariants as place
 use Rattle.lg_config.specs.declared.node.NodeConfig.{NodeConfig}
 use Rattle.lg_config.specs.Meaning.Answer.{answer_of, answer_with}
 use Rattle.lg_config.specs.Meaning.Dice.{own_dice}
@@ -19,11 +20,12 @@ use Rattle.lg_config.specs.Meaning.KeyFiles.{path_of}
 use Rattle.lg_config.specs.Meaning.Keys.{file_key_named, kind_of_key}
 use Rattle.lg_config.specs.Meaning.Settings.{addr_in, dice_in, name_in, settings_of, with_numbers}
 use Rattle.lg_text.specs.Meaning.AddressExamples.{on_addresses}
-use Rattle.lg_config.specs.Meaning.Texts.{before, behind, octets_of, address_of, seed_of_text}
+use Rattle.lg_config.specs.Meaning.Texts.{before, behind, octets_of, address_of, place_of, place_with_port}
+use Rattle.lg_config.specs.Meaning.Texts.{seed_of_text}
 
 -- what the rows have to unfold
 unfoldable on_texts : ⊤
-unfolding is_utf8 chars before behind octets_of address_of seed_of_text on_addresses
+unfolding is_utf8 chars before behind octets_of address_of place_of place_with_port seed_of_text on_addresses
 on_texts = tt
 
 unfoldable on_keys : ⊤
@@ -55,6 +57,8 @@ usual-with config =
       dice = own_dice config.name config.addr;
       pull_ms = 30000;
       stall_ms = 100;
+      resolve_ms = 60000;
+      auto = false;
       status = None;
       status_open = false;
       key_file = None;
@@ -91,7 +95,7 @@ abbrev told : List ℕ
 told = codes "forget_ms = 86400000\ngossip_ms = 0\ngossip_to = 8\ngroup = \"grn\"\n"
 
 abbrev owned : List ℕ
-owned = codes "pull_ms = 0\nstall_ms = 60000\n"
+owned = codes "pull_ms = 0\nstall_ms = 60000\nresolve_ms = 3600000\n"
 
 abbrev served : List ℕ
 served = codes "status = \"10.0.0.7:8946\"\nstatus_open = true\nleave = \"off\"\n"
@@ -121,12 +125,14 @@ all-keys :
       dice = 9223372036854775807;
       pull_ms = 0;
       stall_ms = 60000;
+      resolve_ms = 3600000;
+      auto = false;
       status = Some record { ip = V4 (10 ∷ 0 ∷ 0 ∷ 7 ∷ []); port = 8946 };
       status_open = true;
       key_file = None;
       leave = false;
       bind = None;
-      seeds = record { items = record { name = Some (99 ∷ []); addr = local 7001 } ∷ [] };
+      seeds = record { items = record { name = Some (99 ∷ []); place = place.Addr (local 7001) } ∷ [] };
     }
 unfolding on_files
 all-keys = refl
@@ -263,10 +269,31 @@ long-stall : answer_of (b-with (codes "stall_ms = 60001")) ≡ Err fault.Stall
 unfolding on_files
 long-stall = refl
 
+rare-resolving : answer_of (b-with (codes "resolve_ms = 3600001")) ≡ Err fault.Resolve
+unfolding on_files
+rare-resolving = refl
+
+often-resolving : answer_of (b-with (codes "resolve_ms = 999")) ≡ Err fault.Resolve
+unfolding on_files
+often-resolving = refl
+
+negative-resolving : answer_of (b-with (codes "resolve_ms = -1")) ≡ Err fault.Resolve
+unfolding on_files
+negative-resolving = refl
+
+resolving-each-second :
+    answer_of (b-with (codes "resolve_ms = 1000")) ≡ Ok (record (usual-with b-by-default) { resolve_ms = 1000 })
+unfolding on_files
+resolving-each-second = refl
+
 -- they are judged in this order, and behind the version
 pulls-before-stall : answer_of (b-with (codes "stall_ms = -1\npull_ms = -1")) ≡ Err fault.Pull
 unfolding on_files
 pulls-before-stall = refl
+
+stall-before-resolving : answer_of (b-with (codes "resolve_ms = 0\nstall_ms = -1")) ≡ Err fault.Stall
+unfolding on_files
+stall-before-resolving = refl
 
 wire-before-pulls : answer_of (b-with (codes "pull_ms = -1\nwire = 4")) ≡ Err (fault.Config Wire)
 unfolding on_files
@@ -330,6 +357,10 @@ above-127 = refl
 stall-before-status : answer_of (b-with (codes "status = 1\nstall_ms = -1")) ≡ Err fault.Stall
 unfolding on_files
 stall-before-status = refl
+
+resolving-before-status : answer_of (b-with (codes "status = 1\nresolve_ms = 0")) ≡ Err fault.Resolve
+unfolding on_files
+resolving-before-status = refl
 
 status-before-open : answer_of (b-with (codes "status_open = 1\nstatus = 1")) ≡ Err fault.Status
 unfolding on_files

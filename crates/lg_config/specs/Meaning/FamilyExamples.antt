@@ -5,6 +5,7 @@ use Rattle.lg_rules.specs.declared.addr.Ip.{Ip}
 use Rattle.lg_rules.specs.declared.addr.Ip.TheVariants.{V6}
 use Rattle.lg_text.specs.Meaning.AddressExamples.{on_addresses}
 use Rattle.lg_config.specs.declared.fault.FileFault.TheVariants as fault
+use Rattle.lg_config.specs.declared.host.Place.TheVariants as place
 use Rattle.lg_config.specs.declared.seeds.SeedPlace.{SeedPlace}
 use Rattle.lg_config.specs.Meaning.Answer.{answer_of}
 use Rattle.lg_config.specs.Meaning.Examples.{b-by-default, b-with, means, on_files, usual-with}
@@ -80,7 +81,7 @@ unfolding on_families
 bound-anywhere = refl
 
 abbrev nameless-at : Ip → ℕ → SeedPlace
-nameless-at ip port = record { name = None; addr = placed ip port }
+nameless-at ip port = record { name = None; place = place.Addr (placed ip port) }
 
 seeded :
     answer_of (b-with (codes "seeds = [\"a@[2001:db8::5]:1\", \"[2001:db8::6]:2\", \"::1\"]"))
@@ -88,7 +89,7 @@ seeded :
     (with_seeds (record { name = codes "a"; addr = placed (documented 5) 1 } ∷ []) b-by-default)) {
       seeds = record {
         items =
-            record { name = Some (codes "a"); addr = placed (documented 5) 1 }
+            record { name = Some (codes "a"); place = place.Addr (placed (documented 5) 1) }
             ∷ nameless-at (documented 6) 2 ∷ nameless-at loopback 7946 ∷ [];
       };
     })

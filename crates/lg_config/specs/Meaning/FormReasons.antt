@@ -1,14 +1,12 @@
 -- The reasons of values that are out of their form, and of seeds that don't go together, in words.
-use Rattle.std.specs.Prelude.{ℕ, List, [], ◌∷◌, ◌++◌, codes, decimal, nat_lt, if◌then◌else◌}
+use Rattle.std.specs.Prelude.{ℕ, List, [], ◌++◌, codes, decimal, nat_lt, if◌then◌else◌}
 use Rattle.std.specs.Prelude.{Option, Some, None, is_none, is_some, unwrap_or}
 use Rattle.toml.specs.Data.{Items, no_items, item, Members, as_str}
 use Rattle.lg_text.specs.Meaning.Lines.{newline}
 use Rattle.lg_timing.specs.Meaning.Bounds.{most_seeds}
-use Rattle.lg_timing.specs.Meaning.Config.{is_seed}
-use Rattle.lg_timing.specs.declared.config.Seed.{Seed}
 use Rattle.lg_config.specs.Meaning.Quoting.{quoted}
 use Rattle.lg_config.specs.Meaning.Ranges.{dice_reason, port_reason}
-use Rattle.lg_config.specs.Meaning.Seeds.{known_seeds}
+use Rattle.lg_config.specs.Meaning.Seeds.{seed_names, shared_name}
 use Rattle.lg_config.specs.Meaning.Settings.{address_text, dice_in, ip_of_member, name_in, name_text}
 use Rattle.lg_config.specs.Meaning.Settings.{first_seeds, item_count, port_of_member, seed_of_value, seeds_at, text_at}
 
@@ -27,12 +25,12 @@ name_reason members =
 abbrev pub address_reason : Members → List ℕ
 address_reason members =
     codes "address is " ++ (quoted (address_text members)
-    ++ codes ", and has to be A.B.C.D, each from 0 to 255 without leading zeros, or IPv6\n")
+    ++ codes ", and has to be A.B.C.D, each from 0 to 255 without leading zeros, or IPv6, or auto\n")
 
 abbrev pub seed_reason : Members → List ℕ
 seed_reason members =
     codes "the seed " ++ (quoted (bad_seed (seeds_at members))
-    ++ codes " has to be NAME@A.B.C.D:PORT, A.B.C.D:PORT or A.B.C.D, A to D without leading zeros, or IPv6\n")
+    ++ codes " has to be NAME@A.B.C.D:PORT, A.B.C.D:PORT or A.B.C.D, no leading zeros, IPv6 or a host\n")
 
 -- the reason of a value that is out of its form: the first of the name, the address, the port, the dice and the seeds
 unfoldable pub value_reason : Members → List ℕ
@@ -52,11 +50,6 @@ key_file_reason members =
     codes "key_file is "
     ++ (quoted (key_file_text members) ++ codes ", and has to have 1 to 255 bytes of printable ASCII\n")
 
--- the name of the first of some seeds that a later one has too
-abbrev pub shared_name : List Seed → Option (List ℕ)
-shared_name [] = None
-shared_name (seed ∷ seeds) = if is_seed seed.name seeds then Some seed.name else shared_name seeds
-
 -- the reason of a few seeds that don't go together, by a name that two of them have
 abbrev pub few_seeds_reason : Option (List ℕ) → List ℕ
 few_seeds_reason (Some name) = codes "two seeds have the name " ++ (quoted name ++ newline)
@@ -66,12 +59,12 @@ few_seeds_reason None = codes "a seed has the member's own name\n"
 abbrev pub many_seeds_reason : ℕ → List ℕ
 many_seeds_reason count = codes "there are " ++ (decimal count ++ codes " seeds, and at most 16 are allowed\n")
 
--- those of the first 16 seeds that have names
-abbrev pub few_seeds : Items → List Seed
-few_seeds values = known_seeds (unwrap_or (first_seeds values) [])
+-- the names of the first 16 seeds
+abbrev pub few_names : Items → List (List ℕ)
+few_names values = seed_names (unwrap_or (first_seeds values) [])
 
 -- the reason of seeds that don't go together: they are too many, two of them have a name, or one has the member's
 unfoldable pub seeds_reason : Items → List ℕ
 seeds_reason values =
     if nat_lt most_seeds (item_count values) then many_seeds_reason (item_count values)
-    else few_seeds_reason (shared_name (few_seeds values))
+    else few_seeds_reason (shared_name (few_names values))

@@ -6,28 +6,32 @@ use Rattle.lg_timing.specs.Meaning.Keys.{is_within}
 use Rattle.lg_config.specs.declared.fault.FileFault.TheVariants as fault
 use Rattle.lg_config.specs.declared.node.NodeConfig.{NodeConfig}
 use Rattle.lg_config.specs.declared.node_keys.NodeKey.{NodeKey}
-use Rattle.lg_config.specs.declared.node_keys.NodeKey.TheVariants.{PullMs, StallMs}
+use Rattle.lg_config.specs.declared.node_keys.NodeKey.TheVariants.{PullMs, ResolveMs, StallMs}
 use Rattle.lg_config.specs.declared.node_keys.NodeKeyRow.{NodeKeyRow}
-use Rattle.lg_config.specs.Meaning.Bounds.{most_pull_ms, most_stall_ms}
+use Rattle.lg_config.specs.Meaning.Bounds.{least_resolve_ms, most_pull_ms, most_resolve_ms, most_stall_ms}
 
 -- the keys, in the order in which their numbers are judged, behind those of the member
 abbrev pub node_keys : List NodeKey
-node_keys = PullMs ∷ StallMs ∷ []
+node_keys = PullMs ∷ StallMs ∷ ResolveMs ∷ []
 
 -- a key's name
 abbrev pub node_key_name : NodeKey → List ℕ
 node_key_name PullMs = codes "pull_ms"
 node_key_name StallMs = codes "stall_ms"
+node_key_name ResolveMs = codes "resolve_ms"
 
 -- a key's range, default and fault
 abbrev pub node_row_of : NodeKey → NodeKeyRow
 node_row_of PullMs = record { least = 0; most = most_pull_ms; default = 30000; fault = fault.Pull }
 node_row_of StallMs = record { least = 0; most = most_stall_ms; default = 100; fault = fault.Stall }
+node_row_of ResolveMs =
+    record { least = least_resolve_ms; most = most_resolve_ms; default = 60000; fault = fault.Resolve }
 
 -- the number of a key
 abbrev pub own_number : NodeKey → NodeConfig → ℕ
 own_number PullMs node = node.pull_ms
 own_number StallMs node = node.stall_ms
+own_number ResolveMs node = node.resolve_ms
 
 -- whether a number is in a key's range
 abbrev pub allows_own : NodeKey → ℕ → Bool

@@ -6,6 +6,7 @@ use Rattle.lg_timing.specs.Meaning.Config.{defaults}
 use Rattle.lg_timing.specs.declared.config.ConfigFault.TheVariants.{Interval, Seeds}
 use Rattle.toml.specs.Data.{Data, integer, string, Members, no_members, member}
 use Rattle.lg_config.specs.declared.fault.FileFault.TheVariants as fault
+use Rattle.lg_config.specs.declared.host.Place.TheVariants as place
 use Rattle.lg_config.specs.declared.seeds.SeedPlace.{SeedPlace}
 use Rattle.lg_config.specs.Meaning.Answer.{answer_with}
 use Rattle.lg_config.specs.Meaning.Examples.{b-by-default, b-with, local, means, on_files, usual-with}
@@ -32,7 +33,7 @@ ten last port = record { ip = V4 (10 ∷ 0 ∷ 0 ∷ last ∷ []); port = port }
 
 -- a seed without a name
 abbrev nameless : Addr → SeedPlace
-nameless addr = record { name = None; addr = addr }
+nameless addr = record { name = None; place = place.Addr addr }
 
 -- a node of one line
 first-node :

@@ -22,12 +22,13 @@ use Rattle.lg_config.specs.Meaning.Quoting.{quoted}
 use Rattle.lg_config.specs.Meaning.Reasons.{reason_of, IsReason}
 use Rattle.lg_config.specs.Meaning.Settings.{addr_in, dice_in, name_in, settings_of, with_numbers}
 use Rattle.lg_text.specs.Meaning.AddressExamples.{on_addresses}
-use Rattle.lg_config.specs.Meaning.Texts.{before, behind, octets_of, address_of, address_with_port, seed_of_text}
+use Rattle.lg_config.specs.Meaning.Texts.{before, behind, octets_of, address_of, address_with_port, place_of}
+use Rattle.lg_config.specs.Meaning.Texts.{place_with_port, seed_of_text}
 
 -- what the rows have to unfold
 unfoldable on_texts : ⊤
-unfolding toml_on_literals is_utf8 chars digits before behind octets_of address_of address_with_port seed_of_text
-    on_addresses
+unfolding toml_on_literals is_utf8 chars digits before behind octets_of address_of address_with_port place_of
+    place_with_port seed_of_text on_addresses
 on_texts = tt
 
 unfoldable on_keys : ⊤
@@ -97,6 +98,11 @@ negative-stall : said (codes "stall_ms = -1") ≡ Some (codes "stall_ms is -1, a
 unfolding on_reasons
 negative-stall = refl
 
+often-resolving :
+    said (codes "resolve_ms = 999") ≡ Some (codes "resolve_ms is 999, and has to be from 1000 to 3600000\n")
+unfolding on_reasons
+often-resolving = refl
+
 port-65536 : said (codes "port = 65536") ≡ Some (codes "port is 65536, and has to be from 1 to 65535\n")
 unfolding on_reasons
 port-65536 = refl
@@ -107,17 +113,26 @@ negative-dice = refl
 
 three-numbers :
     said (codes "address = \"1.2.3\"")
-    ≡ Some (codes "address is \"1.2.3\", and has to be A.B.C.D, each from 0 to 255 without leading zeros, or IPv6\n")
+    ≡ Some (codes "address is \"1.2.3\", "
+    ++ codes "and has to be A.B.C.D, each from 0 to 255 without leading zeros, or IPv6, or auto\n")
 unfolding on_reasons
 three-numbers = refl
 
 -- the second seed is the first that is none
 bad-seed :
-    said (codes "seeds = [\"c@1.2.3.4:1\", \"c\", \"d\"]")
-    ≡ Some (codes "the seed \"c\" "
-    ++ codes "has to be NAME@A.B.C.D:PORT, A.B.C.D:PORT or A.B.C.D, A to D without leading zeros, or IPv6\n")
+    said (codes "seeds = [\"c@1.2.3.4:1\", \"c@d\", \"7\"]")
+    ≡ Some (codes "the seed \"c@d\" "
+    ++ codes "has to be NAME@A.B.C.D:PORT, A.B.C.D:PORT or A.B.C.D, no leading zeros, IPv6 or a host\n")
 unfolding on_reasons
 bad-seed = refl
+
+-- a mistyped IPv4 address is no host
+mistyped-seed :
+    said (codes "seeds = [\"1.2.3.04\"]")
+    ≡ Some (codes "the seed \"1.2.3.04\" "
+    ++ codes "has to be NAME@A.B.C.D:PORT, A.B.C.D:PORT or A.B.C.D, no leading zeros, IPv6 or a host\n")
+unfolding on_reasons
+mistyped-seed = refl
 
 shared-name :
     said (codes "seeds = [\"c@1.2.3.4:1\", \"d@1.2.3.4:1\", \"d@1.2.3.4:2\"]")
@@ -128,6 +143,17 @@ shared-name = refl
 own-name : said (codes "seeds = [\"b@1.2.3.4:1\"]") ≡ Some (codes "a seed has the member's own name\n")
 unfolding on_reasons
 own-name = refl
+
+shared-name-at-hosts :
+    said (codes "seeds = [\"c@1.2.3.4:1\", \"d@db.example:1\", \"c@db.example:1\"]")
+    ≡ Some (codes "two seeds have the name \"c\"\n")
+unfolding on_reasons
+shared-name-at-hosts = refl
+
+own-name-at-host :
+    said (codes "seeds = [\"b@db.example:1\"]") ≡ Some (codes "a seed has the member's own name\n")
+unfolding on_reasons
+own-name-at-host = refl
 
 seeds-17 :
     said (codes "seeds = [" ++ flat_map (λ seed. seed) (replicate 17 (codes "\"c@1.2.3.4:1\",")) ++ codes "]")
@@ -152,7 +178,7 @@ far-key = refl
 octal-address :
     said (codes "address = \"010.0.0.1\"")
     ≡ Some (codes "address is \"010.0.0.1\","
-    ++ codes " and has to be A.B.C.D, each from 0 to 255 without leading zeros, or IPv6\n")
+    ++ codes " and has to be A.B.C.D, each from 0 to 255 without leading zeros, or IPv6, or auto\n")
 unfolding on_reasons
 octal-address = refl
 
@@ -258,6 +284,19 @@ ipv6-by-default-version :
     ≡ Some (codes "wire is 1 by default, and has to be 3 for a member with an IPv6 address\n")
 unfolding on_reasons
 ipv6-by-default-version = refl
+
+auto-without-seeds :
+    said (codes "address = \"auto\"")
+    ≡ Some (codes "there are no seeds, and at least one is needed if address is \"auto\"\n")
+unfolding on_reasons
+auto-without-seeds = refl
+
+auto-in-capitals :
+    said (codes "address = \"AUTO\"")
+    ≡ Some (codes "address is \"AUTO\", "
+    ++ codes "and has to be A.B.C.D, each from 0 to 255 without leading zeros, or IPv6, or auto\n")
+unfolding on_reasons
+auto-in-capitals = refl
 
 -- a letter of two bytes and an escape character
 quoted-bytes : quoted (195 ∷ 169 ∷ 27 ∷ codes "a") ≡ codes "\"???a\""

@@ -8,6 +8,7 @@ use Rattle.lg_timing.specs.declared.config.ConfigFault.TheVariants.{Interval, Se
 use Rattle.lg_timing.specs.declared.config.Seed.{Seed}
 use Rattle.lg_config.specs.declared.fault.FileFault.{FileFault}
 use Rattle.lg_config.specs.declared.fault.FileFault.TheVariants as fault
+use Rattle.lg_config.specs.declared.host.Place.TheVariants as place
 use Rattle.lg_config.specs.declared.node.NodeConfig.{NodeConfig}
 use Rattle.lg_config.specs.declared.seeds.SeedPlace.{SeedPlace}
 use Rattle.lg_config.specs.Meaning.Answer.{answer_of}
@@ -25,10 +26,10 @@ abbrev host : ℕ → ℕ → Addr
 host last port = record { ip = V4 (10 ∷ 0 ∷ 0 ∷ last ∷ []); port = port }
 
 abbrev nameless : Addr → SeedPlace
-nameless addr = record { name = None; addr = addr }
+nameless addr = record { name = None; place = place.Addr addr }
 
 abbrev named : List ℕ → Addr → SeedPlace
-named name addr = record { name = Some name; addr = addr }
+named name addr = record { name = Some name; place = place.Addr addr }
 
 -- what a file of the member b means that has these seeds, of which it knows those
 abbrev b-seeded : List Seed → List SeedPlace → Result NodeConfig FileFault
@@ -72,9 +73,9 @@ name-is-empty : answer_of (b-with (codes "seeds = [\"@10.0.0.7:1\"]")) ≡ Err f
 unfolding on_seeds
 name-is-empty = refl
 
-name-alone : answer_of (b-with (codes "seeds = [\"c\"]")) ≡ Err fault.Value
+name-without-place : answer_of (b-with (codes "seeds = [\"c@\"]")) ≡ Err fault.Value
 unfolding on_seeds
-name-alone = refl
+name-without-place = refl
 
 -- ---- at most 16, of both forms together
 

@@ -1,10 +1,12 @@
 -- The configuration that the members of a document mean. None if a value is out of its form. The keys are right.
-use Rattle.std.specs.Prelude.{ℕ, suc, take, ℤ, pos, negsuc, true, false, List, [], ◌∷◌, codes, Option, Some, None}
-use Rattle.std.specs.Prelude.{option_and_then, unwrap_or}
+use Rattle.std.specs.Prelude.{ℕ, suc, take, ℤ, pos, negsuc, Bool, true, false, List, [], ◌∷◌, codes, Option, Some}
+use Rattle.std.specs.Prelude.{None, option_and_then, unwrap_or, if◌then◌else◌}
 use Rattle.std.specs.Option.{option_map}
+use Rattle.std.specs.Str.{bytes_eq}
 use Rattle.toml.specs.Data.{Data, Items, no_items, item, Members, get_member, as_str, as_integer, as_array}
 use Rattle.lg_rules.specs.declared.addr.Addr.{Addr}
 use Rattle.lg_rules.specs.declared.addr.Ip.{Ip}
+use Rattle.lg_rules.specs.declared.addr.Ip.TheVariants.{V4}
 use Rattle.lg_text.specs.Meaning.IpReading.{ip_of}
 use Rattle.lg_timing.specs.Meaning.Bounds.{most_seeds}
 use Rattle.lg_timing.specs.Meaning.Config.{defaults}
@@ -14,7 +16,7 @@ use Rattle.lg_timing.specs.declared.config.Seed.{Seed}
 use Rattle.lg_timing.specs.declared.keys.Key.{Key}
 use Rattle.lg_config.specs.declared.node.NodeConfig.{NodeConfig}
 use Rattle.lg_config.specs.declared.node_keys.NodeKey.{NodeKey}
-use Rattle.lg_config.specs.declared.node_keys.NodeKey.TheVariants.{PullMs, StallMs}
+use Rattle.lg_config.specs.declared.node_keys.NodeKey.TheVariants.{PullMs, ResolveMs, StallMs}
 use Rattle.lg_config.specs.declared.seeds.SeedPlace.{SeedPlace}
 use Rattle.lg_config.specs.Meaning.Bounds.{out_of_range, default_address, default_port}
 use Rattle.lg_config.specs.Meaning.Dice.{own_dice}
@@ -75,9 +77,17 @@ address_text members = unwrap_or (text_at (codes "address") members) default_add
 unfoldable pub name_in : Members → Option (List ℕ)
 name_in members = member_name_of (name_text members)
 
+-- whether this member's address is to be found when its node starts: a word stands in its place
+abbrev pub is_auto : Members → Bool
+is_auto members = bytes_eq (address_text members) (codes "auto")
+
+-- what stands for an IP address that is to be found: 0.0.0.0
+abbrev pub unfound_ip : Ip
+unfound_ip = V4 (0 ∷ 0 ∷ 0 ∷ 0 ∷ [])
+
 -- this member's IP address, and its port
 abbrev pub ip_of_member : Members → Option Ip
-ip_of_member members = ip_of (address_text members)
+ip_of_member members = if is_auto members then Some unfound_ip else ip_of (address_text members)
 
 abbrev pub port_of_member : Members → Option ℕ
 port_of_member members = port_among (number_at_key (codes "port") default_port members)
@@ -137,6 +147,8 @@ settings_of members = do
     dice = unwrap_or dice (own_dice name addr);
     pull_ms = own_number_in PullMs members;
     stall_ms = own_number_in StallMs members;
+    resolve_ms = own_number_in ResolveMs members;
+    auto = is_auto members;
     status = None;
     status_open = false;
     key_file = None;

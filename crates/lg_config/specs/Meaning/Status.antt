@@ -1,6 +1,6 @@
 -- The status server of a node: the address at which it listens, and whether that may be one that isn't loopback (this
 -- project's choice). Its answers have no authentication, so a file has to allow such an address.
-use Rattle.std.specs.Prelude.{ℕ, Bool, true, false, ◌||◌, List}
+use Rattle.std.specs.Prelude.{Bool, true, false, ◌||◌}
 use Rattle.std.specs.Prelude.{Option, Some, None, ok_or, option_and_then, Result, Ok, Err, if◌then◌else◌}
 use Rattle.std.specs.Option.{option_map}
 use Rattle.toml.specs.Data.{Data, Members, get_member, as_str, as_bool}

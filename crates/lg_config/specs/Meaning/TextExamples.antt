@@ -3,11 +3,13 @@ use Rattle.std.specs.Prelude.{⊤, ◌≡◌, [], ◌∷◌, Some, None, codes, 
 use Rattle.std.specs.Str.{chars, is_utf8}
 use Rattle.lg_rules.specs.declared.addr.Ip.TheVariants.{V4}
 use Rattle.lg_text.specs.Meaning.AddressExamples.{on_addresses}
-use Rattle.lg_config.specs.Meaning.Texts.{before, behind, octets_of, address_of, address_with_port, seed_of_text}
+use Rattle.lg_config.specs.declared.host.Place.TheVariants as place
+use Rattle.lg_config.specs.Meaning.Texts.{before, behind, octets_of, address_of, address_with_port, place_of}
+use Rattle.lg_config.specs.Meaning.Texts.{place_with_port, seed_of_text}
 
 -- what the rows have to unfold
 unfoldable on_texts : ⊤
-unfolding is_utf8 chars before behind octets_of address_of address_with_port seed_of_text
+unfolding is_utf8 chars before behind octets_of address_of address_with_port place_of place_with_port seed_of_text
     on_addresses
 on_texts = tt
 
@@ -55,7 +57,10 @@ unfolding on_texts
 port-empty = refl
 
 c-at-65535 : seed_of_text (codes "c@1.2.3.4:65535")
-    ≡ Some record { name = Some (99 ∷ []); addr = record { ip = V4 (1 ∷ 2 ∷ 3 ∷ 4 ∷ []); port = 65535 } }
+    ≡ Some record {
+      name = Some (99 ∷ []);
+      place = place.Addr (record { ip = V4 (1 ∷ 2 ∷ 3 ∷ 4 ∷ []); port = 65535 });
+    }
 unfolding on_texts
 c-at-65535 = refl
 
@@ -68,6 +73,6 @@ unfolding on_texts
 two-at-signs = refl
 
 no-at-sign : seed_of_text (codes "1.2.3.4:1")
-    ≡ Some record { name = None; addr = record { ip = V4 (1 ∷ 2 ∷ 3 ∷ 4 ∷ []); port = 1 } }
+    ≡ Some record { name = None; place = place.Addr (record { ip = V4 (1 ∷ 2 ∷ 3 ∷ 4 ∷ []); port = 1 }) }
 unfolding on_texts
 no-at-sign = refl

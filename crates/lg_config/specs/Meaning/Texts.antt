@@ -1,14 +1,19 @@
 -- What a text of a configuration file says: an address with its port, or a seed. It is None if the text is out of its
 -- form. What name, what address of IPv4 or of IPv6 and what port a text spells is said by `member_name_of`,
--- `octets_of`, `ipv6_of` and `port_of` of `lg_text`.
+-- `octets_of`, `ipv6_of` and `port_of` of `lg_text`, and what host by `host_of`.
 use Rattle.std.specs.Prelude.{ℕ, ◌==◌, List, [], ◌∷◌, Option, Some, None, if◌then◌else◌}
+use Rattle.std.specs.Option.{option_map}
 use Rattle.lg_rules.specs.declared.addr.Addr.{Addr}
 use Rattle.lg_rules.specs.declared.addr.Ip.TheVariants.{V4, V6}
 use Rattle.lg_text.specs.Meaning.Cutting.{colon}
 use Rattle.lg_text.specs.Meaning.IpReading.{ipv6_of}
 use Rattle.lg_text.specs.Meaning.Numbers.{port_of}
+use Rattle.lg_config.specs.declared.host.Host.{Host}
+use Rattle.lg_config.specs.declared.host.Place.{Place}
+use Rattle.lg_config.specs.declared.host.Place.TheVariants as place
 use Rattle.lg_config.specs.declared.seeds.SeedPlace.{SeedPlace}
 use Rattle.lg_config.specs.Meaning.Bounds.{default_port}
+use Rattle.lg_config.specs.Meaning.Hosts.{host_of}
 pub use Rattle.lg_text.specs.Meaning.Names.{member_name_of}
 pub use Rattle.lg_text.specs.Meaning.Numbers.{port_among}
 pub use Rattle.lg_text.specs.Meaning.Steps.{◌>>=◌}
@@ -87,23 +92,51 @@ ipv6_unless_ipv4 (Some addr) usual text = Some addr
 unfoldable pub address_with_port : ℕ → List ℕ → Option Addr
 address_with_port usual text = ipv6_unless_ipv4 (ipv4_with_port usual text) usual text
 
--- a seed with a name: an address with its port stands behind it
-abbrev pub named_seed : List ℕ → List ℕ → Option SeedPlace
-named_seed name-text addr-text = do
-  name ← member_name_of name-text
-  addr ← address_of addr-text
-  Some record { name = Some name; addr = addr }
+-- a host and a port, cut at the first colon
+abbrev pub host_with_its_port : List ℕ → Option Host
+host_with_its_port text = do
+  name ← host_of (before colon text)
+  rest ← behind colon text
+  port ← port_of rest
+  Some record { name = name; port = port }
 
--- a seed without a name: an address with a port, or without one, and then it is the default port
+-- a host with a port behind its first colon, or with this port if it has no colon
+abbrev pub host_with_port : ℕ → List ℕ → Option Host
+host_with_port usual text = do
+  name ← host_of (before colon text)
+  port ← port_or usual (behind colon text)
+  Some record { name = name; port = port }
+
+-- an address, or else a host
+abbrev pub addr_or_host : Option Addr → Option Host → Option Place
+addr_or_host None host = option_map (λ found. place.Host found) host
+addr_or_host (Some addr) host = Some (place.Addr addr)
+
+-- the place that a text spells with its port, and the one that it spells with a port or without one, and then it has
+-- this port
+unfoldable pub place_of : List ℕ → Option Place
+place_of text = addr_or_host (address_of text) (host_with_its_port text)
+
+unfoldable pub place_with_port : ℕ → List ℕ → Option Place
+place_with_port usual text = addr_or_host (address_with_port usual text) (host_with_port usual text)
+
+-- a seed with a name: a place with its port stands behind it
+abbrev pub named_seed : List ℕ → List ℕ → Option SeedPlace
+named_seed name-text place-text = do
+  name ← member_name_of name-text
+  found ← place_of place-text
+  Some record { name = Some name; place = found }
+
+-- a seed without a name: a place with a port, or without one, and then it is the default port
 abbrev pub nameless_seed : List ℕ → Option SeedPlace
 nameless_seed text = do
-  addr ← address_with_port default_port text
-  Some record { name = None; addr = addr }
+  found ← place_with_port default_port text
+  Some record { name = None; place = found }
 
 -- a seed, by what stands behind its first `@`; it has a name if it has such a sign
 abbrev pub seed_by : List ℕ → Option (List ℕ) → Option SeedPlace
 seed_by text None = nameless_seed text
-seed_by text (Some addr-text) = named_seed (before at_sign text) addr-text
+seed_by text (Some place-text) = named_seed (before at_sign text) place-text
 
 unfoldable pub seed_of_text : List ℕ → Option SeedPlace
 seed_of_text text = seed_by text (behind at_sign text)

@@ -1,11 +1,12 @@
 -- The bounds and defaults of the definitions are the constants of the code.
 use Rattle.std.specs.Prelude.{◌≡◌, refl}
 use Rattle.lg_config.specs.declared.document.TheConstants.{MAX_FILE}
+use Rattle.lg_config.specs.declared.host.TheConstants.{MAX_HOST}
 use Rattle.lg_config.specs.declared.key_file.TheConstants.{MAX_PATH}
-use Rattle.lg_config.specs.declared.node_keys.TheConstants.{MAX_PULL_MS, MAX_STALL_MS}
+use Rattle.lg_config.specs.declared.node_keys.TheConstants.{MAX_PULL_MS, MAX_RESOLVE_MS, MAX_STALL_MS, MIN_RESOLVE_MS}
 use Rattle.lg_config.specs.declared.settings.TheConstants.{DEFAULT_PORT}
 use Rattle.lg_config.specs.Meaning.Bounds.{most_bytes, most_path_bytes, most_pull_ms, most_stall_ms}
-use Rattle.lg_config.specs.Meaning.Bounds.{default_port}
+use Rattle.lg_config.specs.Meaning.Bounds.{default_port, least_resolve_ms, most_host_bytes, most_resolve_ms}
 
 most_bytes-is : MAX_FILE ≡ most_bytes
 most_bytes-is = refl
@@ -18,6 +19,15 @@ most_pull_ms-is = refl
 
 most_stall_ms-is : MAX_STALL_MS ≡ most_stall_ms
 most_stall_ms-is = refl
+
+least_resolve_ms-is : MIN_RESOLVE_MS ≡ least_resolve_ms
+least_resolve_ms-is = refl
+
+most_resolve_ms-is : MAX_RESOLVE_MS ≡ most_resolve_ms
+most_resolve_ms-is = refl
+
+most_host_bytes-is : MAX_HOST ≡ most_host_bytes
+most_host_bytes-is = refl
 
 default_port-is : DEFAULT_PORT ≡ default_port
 default_port-is = refl

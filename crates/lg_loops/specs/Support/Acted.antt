@@ -1,7 +1,6 @@
 -- What a turn of the ticking loop does, as the code reports it.
 use Rattle.std.specs.Prelude.{◌≡◌, ◌⊎◌, ◌+◌, ◌-◌, ◌*◌, ◌%◌, ◌^◌, ◌<◌, ◌≤◌, ℕ, min, not, if◌then◌else◌}
 use Rattle.std.specs.Prelude.{Bool, true, false, List, [], ◌∷◌, ◌++◌, length, drop}
-use Rattle.std.specs.List.{flat_map}
 use Rattle.lg_rules.specs.declared.addr.Addr.{Addr}
 use Rattle.lg_agent.specs.Meaning.Values.{PassValue}
 use Rattle.lg_loops.specs.declared.agenda.Agenda.{Agenda}
@@ -11,7 +10,7 @@ use Rattle.lg_turns.specs.declared.plan.Plan.{Plan}
 use Rattle.lg_loops.specs.declared.turned.Turned.{Turned}
 use Rattle.lg_turns.specs.Meaning.Turns.{Turn, LinkValue, is_of_ticking}
 use Rattle.lg_turns.specs.Meaning.Leaving.{next_plan}
-use Rattle.lg_turns.specs.Meaning.Pulling.{look_ms, looks_in, last_moment, waiting_after, IsTimely}
+use Rattle.lg_turns.specs.Meaning.Pulling.{look_ms, next_look, waiting_after, IsTimely}
 use Rattle.lg_turns.specs.Meaning.Pulling.{askings_after, asking_distance, is_seeds_turn, seed_turns}
 use Rattle.lg_turns.specs.Meaning.Pausing.{look_left, asking_left, least_time}
 use Rattle.lg_loops.specs.Support.Took.{Took}
@@ -30,14 +29,14 @@ pub record IsAsking (plan : Plan) (moments : List ℕ) (a : Agenda) : Type 0 whe
 
 -- an agenda is that of a loop that began at a moment and has made these turns
 pub record IsAgenda (plan : Plan) (since : ℕ) (turns : List Turn) (a : Agenda) : Type 0 where
-  pub looked : a.looked ≡ last_moment since (flat_map looks_in turns)
+  pub look : a.next_look ≡ next_look since turns
   pub asking : IsAsking plan (askings_after since turns) a
   pub waits : waiting_by plan a ≡ waiting_after plan turns
 
 -- an agenda that counts everything from a moment, of which so many seeds don't wait
 abbrev pub agenda_at : Plan → ℕ → ℕ → Agenda
 agenda_at plan now asked = record {
-  looked = now;
+  next_look = now + look_ms;
   latest = now;
   distance = min plan.pull_ms plan.interval_ms;
   is_seeds_turn = true;
@@ -48,7 +47,7 @@ agenda_at plan now asked = record {
 
 -- the agenda after a table was asked for in turn at a moment, or was to be
 pub record IsNextAgenda (plan : Plan) (now : ℕ) (a a' : Agenda) : Type 0 where
-  pub looked : a'.looked ≡ a.looked
+  pub look : a'.next_look ≡ a.next_look
   pub asked : a'.asked ≡ a.asked
   pub latest : a'.latest ≡ now
   pub distance : a'.distance ≡ min plan.pull_ms (2 * a.distance)
@@ -58,7 +57,7 @@ pub record IsNextAgenda (plan : Plan) (now : ℕ) (a a' : Agenda) : Type 0 where
 
 -- it is too early for a look, and to ask in turn
 abbrev pub IsNoLook : Plan → Agenda → ℕ → Type 0
-IsNoLook plan a now = (length plan.seeds.items ≡ 0) ⊎ (now < a.looked + look_ms)
+IsNoLook plan a now = (length plan.seeds.items ≡ 0) ⊎ (now < a.next_look)
 
 abbrev pub IsNoAsking : Plan → Agenda → ℕ → Type 0
 IsNoAsking plan a now = (plan.pull_ms ≡ 0) ⊎ (now < a.latest + a.distance)
@@ -87,14 +86,14 @@ longest_time = 2 ^ 64 - 1
 -- How long there is nothing to do by an agenda: until the next look, or until a table is asked for in turn.
 abbrev pub rest_by : Plan → Agenda → ℕ → ℕ
 rest_by plan a now =
-    least_time longest_time (look_left plan (a.looked + look_ms) now ++ asking_left plan (a.latest + a.distance) now)
+    least_time longest_time (look_left plan a.next_look now ++ asking_left plan (a.latest + a.distance) now)
 
 -- what is to be done by an agenda
 abbrev pub IsDuty : Plan → Agenda → ℕ → Duty → Type 0
 IsDuty plan a now (Seed peer) =
-    (a.asked < 16) × (waiting_by plan a ≡ peer ∷ waiting_by plan (record a { asked = a.asked + 1 }))
+    (a.asked < 80) × (waiting_by plan a ≡ peer ∷ waiting_by plan (record a { asked = a.asked + 1 }))
 IsDuty plan a now Look =
-    (waiting_by plan a ≡ []) × (0 < length plan.seeds.items) × (a.looked + look_ms ≤ now)
+    (waiting_by plan a ≡ []) × (0 < length plan.seeds.items) × (a.next_look ≤ now)
 IsDuty plan a now (SeedInTurn peer) = IsAskingDue plan a now × IsSeedNext plan a peer
 IsDuty plan a now Member = IsAskingDue plan a now × IsMemberNext plan a
 IsDuty plan a now (Rest limit) =

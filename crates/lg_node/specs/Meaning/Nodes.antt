@@ -56,20 +56,21 @@ pub record AreLinks (settings : Settings) (hears sends : LinkValue) : Type 0 whe
   pub ticking_unfailed : failures_of ticking ≡ 0
 
 -- One pass asked the seeds at these addresses, and then both loops ran, each with a pass of its own. The ticking loop
--- ran over the link by which the seeds were asked. Each turn of receiving waited at most so many milliseconds. When the
--- ticking loop was told to stop or its end time came, this member left its group if it writes its packets in version 3,
--- and the loop went on for one interval. If no thread could be started, the ticking loop made no turn.
+-- ran over the link by which the seeds were asked, and learned other addresses of seeds only if it was to. Each turn of
+-- receiving waited at most so many milliseconds. When the ticking loop was told to stop or its end time came, this
+-- member left its group if it writes its packets in version 3, and the loop went on for one interval. If no thread
+-- could be started, the ticking loop made no turn.
 pub record HasServed
     {D : Type 0} (throws : D → List ℕ → D → Type 0) (dice : D) (tells : Bool) (bound wait : ℕ) (config : Config)
-    (seeds : List Addr) (pull_ms until start : ℕ) (hears hears' sends sends' : LinkValue) (received ticked : LoopEnd)
-    (receiver ticker asker : PassValue)
+    (seeds : List Addr) (learns : Bool) (pull_ms until start : ℕ) (hears hears' sends sends' : LinkValue)
+    (received ticked : LoopEnd) (receiver ticker asker : PassValue)
     : Type 0 where
   pub between : LinkValue
   -- how many packets weren't sent to the seeds, and how many later
   pub unsent : ℕ
   pub later : ℕ
   pub asked : Asked tells seeds sends between (fresh_own config start 3) asker unsent
-  pub ran : BothRan wait throws dice (plan_of config seeds pull_ms until) tells bound true
+  pub ran : BothRan wait throws dice (plan_of config seeds learns pull_ms until) tells bound true
       hears hears' (fresh_own config start 1) receiver received
       between sends' (fresh_own config start 2) ticker (record ticked { unsent = later })
   pub counted : later + unsent < 2 ^ 64 → ticked.unsent ≡ later + unsent
@@ -136,8 +137,8 @@ pub record HasWorked
   pub watcher : PassValue
   pub links : AreLinks settings hears sends
   pub looped : HasServed DrawsEight (seeded settings.dice) false MAX_TURNS
-      (turn_wait config.timeout_ms (stall_of settings.stall_ms)) config settings.seeds.items settings.pull_ms until
-      start hears hears' sends sends' received ticked receiver ticker asker
+      (turn_wait config.timeout_ms (stall_of settings.stall_ms)) config settings.seeds.items settings.learns
+      settings.pull_ms until start hears hears' sends sends' received ticked receiver ticker asker
   pub told : WatchesIf settings.follow asker watcher held holds watched
   pub shown : ServesIf (is_some settings.status) config settings (fresh_own config start 4) status served
   pub read : MatchResult members (λ records. (records.items ≡ view_after reader.seen) × IsLook watcher reader)

@@ -36,7 +36,9 @@ hosts_of (Some addr) = hosts_at addr
 
 -- the numbers of the node's own that it shows, in order, each behind its key
 abbrev pub own_numbers : Settings → List (List ℕ × ℕ)
-own_numbers s = (codes "dice", s.dice) ∷ (codes "pull_ms", s.pull_ms) ∷ (codes "stall_ms", s.stall_ms) ∷ []
+own_numbers s =
+    (codes "dice", s.dice) ∷ (codes "pull_ms", s.pull_ms) ∷ (codes "stall_ms", s.stall_ms)
+    ∷ (codes "resolve_ms", s.resolve_ms) ∷ []
 
 abbrev pub numbers_shown : List NodeNumber → List (List ℕ × ℕ)
 numbers_shown numbers = map (λ own. (own.key.now, own.value)) numbers

@@ -4,7 +4,7 @@ use arrayvec::ArrayVec;
 use lg_agent::{CloseFault, Closed};
 use lg_detector::Event;
 use lg_loops::NodeLoops;
-use lg_node::{LoopEnd, NodeStart, Settings, Why, run_node};
+use lg_node::{LoopEnd, NodeStart, ResolvedSeeds, Settings, Why, run_node};
 use lg_rules::Addr;
 use lg_testing::{Room, at, letter, local};
 use lg_timing::{Config, Seed};
@@ -122,6 +122,8 @@ where
     let settings = Settings {
         bind: config.addr,
         seeds: asks,
+        learns: false,
+        resolve_ms: 60_000,
         shown_seeds: ArrayVec::new(),
         dice: 1,
         pull_ms: 0,
@@ -133,6 +135,7 @@ where
         keys: None,
     };
     let stop = AtomicBool::new(false);
+    let resolved = ResolvedSeeds::new();
     let (mut unread, mut faults) = (Room::failing(0), Room::failing(0));
     let start = NodeStart {
         loops: NodeLoops,
@@ -140,6 +143,7 @@ where
         settings: &settings,
         until: at(0),
         stop: &stop,
+        resolved: &resolved,
     };
     let ran = run_node(rt, alloc, &start, &mut unread, &mut faults).ok()?;
     Some((ran.ticked, asked(&ran.closed)))

@@ -9,12 +9,11 @@ use arrayvec::ArrayVec;
 use left_right::Absorb;
 use lg_agent::{AgentName, Pass, Spent};
 use lg_agent_testing::{Case, Ending, Left, Outcome};
-use lg_clock::DeadlineSignal;
 use lg_detector::Event;
 use lg_loops::NodeLoops;
 use lg_node::{
-    Both, ChangeSignal, Counters, LoopEnd, PcgDice, ServerSide, Settings, Shared, Side, Sides,
-    StatusServer, Watched, Watching, Why, join_threads,
+    Both, ChangeSignal, Counters, LoopEnd, PcgDice, ResolvedSeeds, ServerSide, Settings, Shared,
+    Side, Sides, StatusServer, Watched, Watching, Why, join_threads,
 };
 use lg_testing::{Room, at, letter, local};
 use lg_timing::{Config, MAX_MOMENT};
@@ -100,6 +99,8 @@ fn settings(follow: bool) -> Settings {
     Settings {
         bind: local(7000),
         seeds: ArrayVec::new(),
+        learns: false,
+        resolve_ms: 60_000,
         shown_seeds: ArrayVec::new(),
         dice: 1,
         pull_ms: 0,
@@ -165,7 +166,8 @@ fn shared<'a, R, C>(
         endless: false,
         wait_ms: WAIT_MS,
         pause_ms: WAIT_MS,
-        deadlines: &noted.deadlines,
+        deadlines: noted.resolved.deadlines(),
+        resolved: &noted.resolved,
     }
 }
 
@@ -203,7 +205,7 @@ where
         page_heard: AtomicBool::new(false),
         counters: Counters::new(name, at(0)),
         changes: ChangeSignal::new(),
-        deadlines: DeadlineSignal::new(),
+        resolved: ResolvedSeeds::new(),
     };
     let shared = shared(rt, alloc, &clock, &meeting.stop, &noted);
     let Four {

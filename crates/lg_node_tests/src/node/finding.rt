@@ -9,7 +9,8 @@ use lg_agent::{AgentName, Pass, Spent};
 use lg_agent_testing::{Case, Left, Outcome, config, last_pass, spelled};
 use lg_loops::NodeLoops;
 use lg_node::{
-    Ended, Link, LinkFault, LoopEnd, MAX_DATAGRAM, MAX_TURNS, Plan, Side, TickingLoop, Why,
+    Ended, Link, LinkFault, LoopEnd, MAX_DATAGRAM, MAX_FOUND, MAX_TURNS, Plan, Side, TickingLoop,
+    Why,
 };
 use lg_rules::{Addr, Claim};
 use lg_testing::{at, failed, local, ping};
@@ -25,7 +26,7 @@ const PULL_OF_B: &[u8; 21] =
     b"SL\x01\x05\x01b\x00\x01\x01\x01b\x7f\x00\x00\x01\x1b\x58\x00\x00\x00\x00";
 
 /// The ports of the seeds.
-const C: u16 = 7003;
+pub(super) const C: u16 = 7003;
 
 const D: u16 = 7004;
 
@@ -34,39 +35,54 @@ const E: u16 = 7005;
 /// The port of c once it has failed. Those of d and e follow.
 const FAILED_C: u16 = 7103;
 
+/// The port of the first address that hosts are found to have. The port of b comes next, and others follow.
+pub(super) const HOST: u16 = 6999;
+
+/// The port of the first address that they have later.
+pub(super) const MOVED: u16 = 7201;
+
 /// More Pulls than any loop here hands over.
-const NEVER: usize = 1_000;
+pub(super) const NEVER: usize = 1_000;
 
 /// More turns than any loop here makes.
 const MANY: u64 = 100_000;
 
 /// A Pull: the moment at which it was handed over, and the port of 127.0.0.1 for which.
-type Pulled = (u64, u16);
+pub(super) type Pulled = (u64, u16);
 
 /// What a ticking loop of b meets. It begins at 0, and nobody answers it.
 #[derive(Clone, Copy)]
 pub struct Search {
     /// How many of c, d and e are its seeds.
-    others: u8,
+    pub(super) others: u8,
     /// How many of them, from c on, have failed before it begins.
-    failed: u8,
+    pub(super) failed: u8,
     /// How long it is at most from one asking for a table in turn to the next, in milliseconds. With 0 there is none.
-    pull_ms: u64,
-    dice: SteppingDice,
+    pub(super) pull_ms: u64,
+    /// Whether hosts are among its seeds, whose addresses it learns.
+    pub(super) learns: bool,
+    /// How many addresses they were found to have before it begins, from [`HOST`] on.
+    pub(super) found: u8,
+    /// How many they have once so many Pulls were handed over, from [`MOVED`] on.
+    pub(super) found_later: (usize, u8),
+    pub(super) dice: SteppingDice,
     /// A Page is heard once so many Pulls were handed over. With 0 it was heard before the loop.
-    page_after: usize,
+    pub(super) page_after: usize,
     /// When it ends.
-    until: u64,
+    pub(super) until: u64,
     /// How many turns it may make, and whether it then counts them anew and goes on.
-    bound: u64,
-    endless: bool,
+    pub(super) bound: u64,
+    pub(super) endless: bool,
 }
 
 /// A loop that knows c, d and e, has heard a Page, and asks nobody in turn. Its interval is a second.
-const KNOWN: Search = Search {
+pub(super) const KNOWN: Search = Search {
     others: 3,
     failed: 0,
     pull_ms: 0,
+    learns: false,
+    found: 0,
+    found_later: (NEVER, 0),
     dice: SteppingDice { word: 0, step: 0 },
     page_after: 0,
     until: 0,
@@ -96,7 +112,7 @@ impl Search {
         for seed in &config.seeds {
             seeds.push(seed.addr);
         }
-        Plan::new(&config, &seeds, self.pull_ms, at(self.until))
+        Plan::new(&config, &seeds, self.learns, self.pull_ms, at(self.until))
     }
 
     /// Lets b hear who has failed, and at which ports.
@@ -114,16 +130,28 @@ impl Search {
     }
 }
 
-/// A link that keeps the first 16 Pulls. A Page is heard once so many were handed over.
+/// So many addresses, with ports from one on.
+fn addresses(first: u16, count: u8) -> ArrayVec<Addr, MAX_FOUND> {
+    let mut found = ArrayVec::new();
+    for index in 0..count.min(8) {
+        found.push(local(first.wrapping_add(u16::from(index))));
+    }
+    found
+}
+
+/// A link that keeps the first 16 Pulls. A Page is heard once so many were handed over, and hosts have other addresses
+/// once so many were.
 #[derive(Drop)]
-struct PullLink<'a> {
+struct PullLink<'a, R> {
+    rt: &'a R,
     clock: &'a MemoryClock,
-    page_heard: &'a AtomicBool,
+    noted: &'a Noted,
     page_after: usize,
+    found_later: (usize, u8),
     pulls: ArrayVec<Pulled, 16>,
 }
 
-impl<'a> Link for PullLink<'a> {
+impl<'a, R: Wait> Link for PullLink<'a, R> {
     ghost use Rattle.std.specs.Prelude.{false, []};
 
     ghost tells = { false };
@@ -137,7 +165,11 @@ impl<'a> Link for PullLink<'a> {
             self.pulls.push((self.clock.milliseconds(), port_of(to)));
         }
         if self.pulls.len() == self.page_after {
-            self.page_heard.store(true, SeqCst);
+            self.noted.page_heard.store(true, SeqCst);
+        }
+        let (pulls, count) = self.found_later;
+        if self.pulls.len() == pulls {
+            self.noted.resolved.tell(self.rt, &addresses(MOVED, count));
         }
         Ok(())
     }
@@ -165,20 +197,22 @@ pub struct Found {
 
 /// Runs the loop with a pass over a link that shares this clock and this flag.
 fn run_loop<'a, A: AgentName, R: Wait>(
-    rt: &R,
+    rt: &'a R,
     alloc: Global,
     pass: Pass<'_, A>,
     search: Search,
     clock: &'a MemoryClock,
     noted: &'a Noted,
-) -> Ended<PullLink<'a>, A> {
+) -> Ended<PullLink<'a, R>, A> {
     let stop = AtomicBool::new(false);
     let bound = search.bound.min(MAX_TURNS);
     let shared = shared(rt, alloc, clock, &stop, noted, bound, search.endless);
     let link = PullLink {
+        rt,
         clock,
-        page_heard: &noted.page_heard,
+        noted,
         page_after: search.page_after,
+        found_later: search.found_later,
         pulls: ArrayVec::new(),
     };
     NodeLoops::tick_loop(&shared, Side { pass, link }, search.dice, search.plan())
@@ -195,6 +229,9 @@ fn run_pass<A: AgentName, R: Wait>(
     search.tell_failed(rt, alloc, &mut pass);
     let clock = MemoryClock::new(0);
     let noted = Noted::new(search.page_after == 0);
+    if search.found > 0 {
+        noted.resolved.tell(rt, &addresses(HOST, search.found));
+    }
     let Ended { link, spent, end } = run_loop(rt, alloc, pass, search, &clock, &noted);
     let found = Found {
         end,
@@ -231,7 +268,7 @@ fn found_in(outcome: &Outcome<Shown>) -> Option<&Found> {
 }
 
 /// Whether a loop runs until its time is over, and hands over these Pulls and no others.
-fn asks<R>(rt: &R, alloc: Global, search: Search, pulls: &[Pulled]) -> bool
+pub(super) fn asks<R>(rt: &R, alloc: Global, search: Search, pulls: &[Pulled]) -> bool
 where
     R: Threads + Wait + rt::Clock + Sync,
 {

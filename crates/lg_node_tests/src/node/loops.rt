@@ -4,13 +4,13 @@ ghost use Rattle.std.specs.Prelude.{◌≡◌, ◌≤◌};
 use super::clocks::{FixedDice, MemoryClock};
 use arrayvec::ArrayVec;
 use lg_agent::{AgentName, Pass};
-use lg_clock::DeadlineSignal;
 use lg_loops::NodeLoops;
 use lg_node::{
-    ChangeSignal, Counters, Ended, Link, MAX_TURNS, Plan, ReceivingLoop, Shared, Side, TickingLoop,
+    ChangeSignal, Counters, Ended, Link, MAX_TURNS, Plan, ReceivingLoop, ResolvedSeeds, Shared,
+    Side, TickingLoop,
 };
 use lg_rules::Name;
-use lg_testing::at;
+use lg_testing::{at, local};
 use lg_timing::Moment;
 use std::alloc::Global;
 use std::sync::Wait;
@@ -25,7 +25,7 @@ pub(super) struct Noted {
     pub(super) page_heard: AtomicBool,
     pub(super) counters: Counters,
     pub(super) changes: ChangeSignal,
-    pub(super) deadlines: DeadlineSignal,
+    pub(super) resolved: ResolvedSeeds,
 }
 
 impl Noted {
@@ -35,7 +35,7 @@ impl Noted {
             page_heard: AtomicBool::new(page_heard),
             counters: Counters::new(Name::default(), at(0)),
             changes: ChangeSignal::new(),
-            deadlines: DeadlineSignal::new(),
+            resolved: ResolvedSeeds::new(),
         }
     }
 }
@@ -68,7 +68,8 @@ pub(super) fn shared<'a, R>(
         endless,
         wait_ms: WAIT_MS,
         pause_ms: WAIT_MS,
-        deadlines: &noted.deadlines,
+        deadlines: noted.resolved.deadlines(),
+        resolved: &noted.resolved,
     }
 }
 
@@ -93,7 +94,10 @@ pub(super) fn receive<A: AgentName, R: Wait, L: Link>(
 pub(super) fn ticks_until(until: Moment) -> Plan {
     Plan {
         name: Name::default(),
+        own: local(7000),
+        fixed: ArrayVec::new(),
         seeds: ArrayVec::new(),
+        learns: false,
         interval_ms: 0,
         pull_ms: 0,
         until,

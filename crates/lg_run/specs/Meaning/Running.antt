@@ -1,5 +1,5 @@
 -- How the node of a configuration is run: what is announced, what is written, and what is told of its end.
-use Rattle.std.specs.Prelude.{◌≡◌, ◌⊎◌, ℕ, Bool, true, false, List, [], if◌then◌else◌}
+use Rattle.std.specs.Prelude.{◌≡◌, ◌⊎◌, ◌==◌, ℕ, not, Bool, true, false, List, [], length, if◌then◌else◌}
 use Rattle.std.specs.Prelude.{Option, Some, None, IsSome, Result, Ok, Err, MatchResult, OnErr}
 use Rattle.std.specs.Option.{option_map}
 use Rattle.std.specs.Result.{result_ok}
@@ -15,22 +15,25 @@ use Rattle.lg_config.specs.declared.fault.ReadFault.TheVariants.{NoMemory, File}
 use Rattle.lg_config.specs.declared.node.NodeConfig.{NodeConfig}
 use Rattle.lg_config.specs.Meaning.Answer.{IsAnswer}
 use Rattle.lg_config.specs.Meaning.Binding.{bound_at}
-use Rattle.lg_config.specs.Meaning.Options.{SourceValue}
-use Rattle.lg_config.specs.Meaning.Seeds.{asked_addrs}
+use Rattle.lg_config.specs.Meaning.Options.{Options, SourceValue}
+use Rattle.lg_config.specs.Meaning.Seeds.{asked_addrs, seed_hosts}
 use Rattle.lg_node.specs.declared.node.NodeEnd.{NodeEnd}
 use Rattle.lg_node.specs.declared.node.NodeFault.{NodeFault}
 use Rattle.lg_node.specs.declared.node.NodeFault.TheVariants as node
 use Rattle.lg_node.specs.declared.node.Settings.{Settings}
 use Rattle.lg_node.specs.Meaning.Nodes.{IsRun, IsEarly, TellsServed}
-use Rattle.lg_run.specs.declared.told.Told.TheVariants.{Memory}
+use Rattle.lg_run.specs.declared.told.Told.TheVariants.{Memory, Link}
 use Rattle.lg_run.specs.Meaning.Checking.{WritesText}
 use Rattle.lg_run.specs.Meaning.FirstNumber.{started_at}
 use Rattle.lg_run.specs.declared.key_file.NoKeys.{NoKeys}
 use Rattle.lg_run.specs.Meaning.KeyTelling.{TellsNoKeys}
+use Rattle.lg_run.specs.declared.own_address.NoAddress.{NoAddress}
+use Rattle.lg_run.specs.declared.own_address.NoAddress.TheVariants.{Unfound, Fault}
+use Rattle.lg_run.specs.Meaning.OwnAddress.{HasOwnAddress, LacksOwnAddress}
 use Rattle.lg_run.specs.Meaning.Reporting.{AreBytesOf, LacksBytes, ReportsBoth, TellsAlone, TellsFault}
 use Rattle.lg_run.specs.Meaning.Telling.{ending, line_of, run_told, status_told}
 use Rattle.lg_run.specs.Meaning.Wishes.{end_wished, is_announced}
-use Rattle.lg_run.specs.Meaning.Words.{link_reason, start_line}
+use Rattle.lg_run.specs.Meaning.Words.{link_reason, start_line, unfound_reason}
 
 -- the records of the table that is to be written, if one is to be
 abbrev pub table_at_end : Result NodeEnd NodeFault → Option (List Claim)
@@ -77,11 +80,17 @@ IsSecond n (Err node.Clock) second = second ≡ []
 IsSecond n (Err (node.Refused refusal)) second = second ≡ []
 IsSecond n (Ok e) second = second ≡ []
 
+-- whether hosts are among the seeds of a configuration
+abbrev pub has_hosts : NodeConfig → Bool
+has_hosts n = not (length (seed_hosts n.seeds.items) == 0)
+
 -- the settings of a node: what its configuration says, with these keys, and whether it follows
 abbrev pub node_settings : NodeConfig → Option Keys → Bool → Settings
 node_settings n keys follow = record {
   bind = bound_at n;
   seeds = record { items = asked_addrs n.config.addr n.seeds.items };
+  learns = has_hosts n;
+  resolve_ms = n.resolve_ms;
   shown_seeds = n.seeds;
   dice = n.dice;
   pull_ms = n.pull_ms;
@@ -140,7 +149,7 @@ pub record RunsAnnounced
   pub start : Announces until follow reported announced (start_line file n)
   pub runs : RunsNode before after held holds announced reports n keys until follow status
 
--- That is done, or memory for the announcement is refused, and that is told.
+-- That is done, or memory for the announcement or the thread that resolves hosts is refused, and that is told.
 abbrev pub RunsOrRefused :
     {W : Type 0} → (before after : W) (held holds : Option (List ℕ)) (reported reports : Reported)
     (file : Option (List ℕ))
@@ -159,13 +168,36 @@ RunsKeyed before after held holds reported reports file n until follow status =
     × RunsOrRefused before after held holds reported reports file n keys until follow status)
     ⊎ ((fault : NoKeys) × IsSome n.key_file × (after ≡ before) × TellsNoKeys reported reports fault status)
 
--- A configuration that was read is run, with a first number by some time. If none was read, the reason is told.
+-- The node of a configuration is run, with a first number by some time.
+abbrev pub RunsStarted :
+    {W : Type 0} → (before after : W) (held holds : Option (List ℕ)) (reported reports : Reported)
+    (file : Option (List ℕ))
+    (n : NodeConfig) (until : Option ℕ) (follow : Bool) (status : ℕ) → Type 0
+RunsStarted before after held holds reported reports file n until follow status =
+    (time : ℕ) × RunsKeyed before after held holds reported reports file (started_at time n) until follow status
+
+-- An address of its own wasn't found, which is told in two lines.
+pub record TellsUnfound (reported reports : Reported) (status : ℕ) : Type 0 where
+  pub lines : ReportsBoth reported reports (line_of Link) unfound_reason
+  pub is : status ≡ status_told Link
+
+-- It is told why a node has no address of its own.
+abbrev pub TellsNoAddress :
+    (reported reports : Reported) → Options → (bytes : List ℕ) → NoAddress → (status : ℕ) → Type 0
+TellsNoAddress reported reports options bytes Unfound status = TellsUnfound reported reports status
+TellsNoAddress reported reports options bytes (Fault fault) status =
+    TellsFault reported reports options bytes fault status
+
+-- A configuration that was read is run, with its own address found if that is to be found. If it has none, or no
+-- configuration was read, the reason is told.
 abbrev pub RunsConfig :
     {W : Type 0} → (before after : W) (held holds : Option (List ℕ)) (reported reports : Reported) (bytes : List ℕ)
     (source : SourceValue) → Result NodeConfig ReadFault → (until : Option ℕ) (follow : Bool) (status : ℕ) → Type 0
 RunsConfig before after held holds reported reports bytes source (Ok n) until follow status =
-    (time : ℕ)
-    × RunsKeyed before after held holds reported reports source.file (started_at time n) until follow status
+    ((found : NodeConfig) × (told : Reported) × HasOwnAddress n reported told found
+    × RunsStarted before after held holds told reports source.file found until follow status)
+    ⊎ ((none : NoAddress) × LacksOwnAddress n none × (after ≡ before)
+    × TellsNoAddress reported reports source.options bytes none status)
 RunsConfig before after held holds reported reports bytes source (Err NoMemory) until follow status =
     TellsAlone before after reported reports Memory status
 RunsConfig before after held holds reported reports bytes source (Err (File fault)) until follow status =

@@ -6,21 +6,22 @@ use Rattle.lg_rules.specs.declared.addr.Addr.{Addr}
 use Rattle.lg_rules.specs.declared.addr.Ip.TheVariants.{V4}
 use Rattle.lg_timing.specs.Meaning.Config.{defaults}
 use Rattle.lg_config.specs.declared.node.NodeConfig.{NodeConfig}
+use Rattle.lg_config.specs.declared.host.Place.TheVariants as place
 use Rattle.lg_config.specs.declared.seeds.SeedPlace.{SeedPlace}
 use Rattle.lg_config.specs.Meaning.Seeds.{known_seeds}
 use Rattle.lg_config.specs.Meaning.Settings.{with_seeds}
 use Rattle.lg_run.specs.Meaning.Wishes.{end_wished, is_announced}
-use Rattle.lg_run.specs.Meaning.Words.{link_reason, start_line}
+use Rattle.lg_run.specs.Meaning.Words.{auto_line, link_reason, start_line}
 
 -- 127.0.0.1 with a port
 abbrev local_at : ℕ → Addr
 local_at port = record { ip = V4 (127 ∷ 0 ∷ 0 ∷ 1 ∷ []); port = port }
 
 abbrev seed_of : ℕ → SeedPlace
-seed_of letter = record { name = Some (letter ∷ []); addr = local_at 7101 }
+seed_of letter = record { name = Some (letter ∷ []); place = place.Addr (local_at 7101) }
 
 abbrev nameless : SeedPlace
-nameless = record { name = None; addr = local_at 7101 }
+nameless = record { name = None; place = place.Addr (local_at 7101) }
 
 -- the node b at port 7102 with the default numbers and these seeds
 abbrev b-knowing : List SeedPlace → NodeConfig
@@ -30,6 +31,8 @@ b-knowing seeds =
       dice = 1;
       pull_ms = 30000;
       stall_ms = 100;
+      resolve_ms = 60000;
+      auto = false;
       status = None;
       status_open = false;
       key_file = None;
@@ -55,6 +58,10 @@ no-file :
     ≡ codes "lg: b at 127.0.0.1:7102, no file, wire 1, 1 seed\n"
 unfolding digits
 no-file = refl
+
+found : auto_line (local_at 7102) ≡ codes "lg: the address auto is 127.0.0.1:7102\n"
+unfolding digits
+found = refl
 
 taken : link_reason (local_at 7102) error.AddrInUse ≡ codes "127.0.0.1:7102 can't be bound: the address is in use\n"
 unfolding digits

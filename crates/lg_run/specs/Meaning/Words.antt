@@ -1,5 +1,5 @@
--- The lines in words: who starts, why a socket can't be bound, why a file can't be read, and why a status server ended
--- early (this project's choice).
+-- The lines in words: who starts, which address was found, why a socket can't be bound, why a file can't be read, and
+-- why a status server ended early (this project's choice).
 use Rattle.std.specs.Prelude.{ℕ, ◌==◌, List, ◌++◌, codes, decimal, length, if◌then◌else◌, Option, Some, None}
 use Rattle.std.specs.declared.io.ErrorKind.{ErrorKind}
 use Rattle.std.specs.declared.io.ErrorKind.TheVariants as error
@@ -23,6 +23,14 @@ start_line file n =
     let format = codes ", wire " ++ (decimal n.config.wire ++ (codes ", " ++ seeds)) in
     codes "lg: " ++ (n.config.name ++ (codes " at " ++ (addr_text n.config.addr
     ++ (codes ", " ++ (file_words file ++ format)))))
+
+-- lg: the address auto is A.B.C.D:PORT
+abbrev pub auto_line : Addr → List ℕ
+auto_line addr = codes "lg: the address auto is " ++ (addr_text addr ++ newline)
+
+-- why an address that is to be found isn't
+abbrev pub unfound_reason : List ℕ
+unfound_reason = codes "the address auto wasn't found: no seed resolves to an address that this machine reaches\n"
 
 -- why an address can't be bound, by the kind of the error
 abbrev pub bind_words : ErrorKind → List ℕ

@@ -4,8 +4,9 @@ use Rattle.lg_timing.specs.declared.moment.TheConstants.{MAX_MOMENT}
 use Rattle.lg_turns.specs.declared.ending.Why.{Why}
 use Rattle.lg_turns.specs.declared.ending.Why.TheVariants.{Stopped}
 use Rattle.lg_turns.specs.declared.plan.Plan.{Plan}
+use Rattle.lg_turns.specs.Meaning.Resolving.{learning}
 use Rattle.lg_turns.specs.Meaning.Turns.{Turn}
-use Rattle.lg_turns.specs.Meaning.Turns.Turn.{Departed}
+use Rattle.lg_turns.specs.Meaning.Turns.Turn.{Departed, Learned}
 
 -- a turn in which this member left
 abbrev pub departs : Turn → Bool
@@ -21,6 +22,7 @@ abbrev pub lingering : Plan → ℕ → Plan
 lingering plan now =
     record plan {
       seeds = record { items = [] };
+      learns = false;
       pull_ms = 0;
       until = min (now + plan.interval_ms) MAX_MOMENT;
       leaves = false;
@@ -29,6 +31,7 @@ lingering plan now =
 -- the plan after a turn, and after some turns
 abbrev pub next_plan : Plan → Turn → Plan
 next_plan plan (Departed now words r sent) = lingering plan now
+next_plan plan (Learned now found) = learning plan found
 next_plan plan _ = plan
 
 abbrev pub plan_after : Plan → List Turn → Plan

@@ -101,7 +101,7 @@ a_refusal_does = refl
 
 -- AT WHICH ENDS IT LEAVES
 abbrev plan_in : ℕ → Plan
-plan_in wire = plan_of (config_in wire) (at 7003 ∷ []) 0 10000
+plan_in wire = plan_of (config_in wire) (at 7003 ∷ []) false 0 10000
 
 if_it_is_stopped : leaves_at (plan_in 3) Stopped ≡ true
 if_it_is_stopped = refl

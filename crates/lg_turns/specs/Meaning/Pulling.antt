@@ -30,6 +30,7 @@ use Rattle.lg_turns.specs.Meaning.Turns.Turn.{
   UnaskedMember,
   FoundNobody,
   Unfound,
+  Learned,
   Departed,
   Undeparted,
 }
@@ -44,12 +45,16 @@ leaves_in One = false
 leaves_in Two = false
 leaves_in Three = true
 
--- what the ticking loop of a node does besides its ticks, whose seeds have these addresses
-abbrev pub plan_of : Config → List Addr → ℕ → ℕ → Plan
-plan_of config seeds pull_ms until =
+-- What the ticking loop of a node does besides its ticks, whose seeds have these addresses. It learns others if hosts
+-- are among the seeds too.
+abbrev pub plan_of : Config → List Addr → Bool → ℕ → ℕ → Plan
+plan_of config seeds learns pull_ms until =
     record {
       name = config.name;
+      own = config.addr;
+      fixed = record { items = seeds };
       seeds = record { items = seeds };
+      learns = learns;
       interval_ms = config.interval_ms;
       pull_ms = pull_ms;
       until = until;
@@ -67,11 +72,13 @@ has_gone claim = is_gone claim.status
 abbrev pub is_alone : List ℕ → List Claim → Bool
 is_alone own records = list_all has_gone (others_of own records)
 
--- the moment of a look whether the seeds are to be asked
-abbrev pub looks_in : Turn → List ℕ
-looks_in (Looked now seen asks) = now ∷ []
-looks_in (Unlooked now) = now ∷ []
-looks_in _ = []
+-- From when on there is a look whether the seeds are to be asked, by a turn: a while after the look before, and at once
+-- when other addresses of the seeds were learned.
+abbrev pub looks_from : Turn → List ℕ
+looks_from (Looked now seen asks) = (now + look_ms) ∷ []
+looks_from (Unlooked now) = (now + look_ms) ∷ []
+looks_from (Learned now found) = now ∷ []
+looks_from _ = []
 
 -- the last of some moments, or this one if there are none
 abbrev pub last_moment : ℕ → List ℕ → ℕ
@@ -80,13 +87,14 @@ last_moment since (now ∷ moments) = last_moment now moments
 
 -- from when on there is a look again, after some turns of a loop that began at a moment
 abbrev pub next_look : ℕ → List Turn → ℕ
-next_look since turns = last_moment since (flat_map looks_in turns) + look_ms
+next_look since turns = last_moment (since + look_ms) (flat_map looks_from turns)
 
 -- The moments since which tables are asked for in turn, the latest first. The first of them is that at which a look
--- said that the seeds are to be asked, the last time, or else that of the loop's beginning. At each of the others a
--- table was asked for in turn, or was to be.
+-- said that the seeds are to be asked, or other addresses of theirs were learned, the last time, or else that of the
+-- loop's beginning. At each of the others a table was asked for in turn, or was to be.
 abbrev pub askings : List ℕ → Turn → List ℕ
 askings before (Looked now seen asks) = if asks then now ∷ [] else before
+askings before (Learned now found) = now ∷ []
 askings before (AskedInTurn now peer r sent) = now ∷ before
 askings before (UnaskedInTurn now peer e) = now ∷ before
 askings before (AskedMember now words seen peer r sent) = now ∷ before
@@ -124,9 +132,10 @@ seed_turns [] = 0
 seed_turns (m ∷ before) = if is_seeds_turn before then seed_turns before + 1 else seed_turns before
 
 -- The seeds that wait to be asked after a turn, by those that waited before it. A look decides whether all of them
--- wait. One that was asked waits no longer.
+-- wait. One that was asked waits no longer, and none does when other addresses of theirs were learned.
 abbrev pub waiting : List Addr → List Addr → Turn → List Addr
 waiting seeds before (Looked now seen asks) = if asks then seeds else []
+waiting seeds before (Learned now found) = []
 waiting seeds before (AskedSeed now peer r sent) = drop 1 before
 waiting seeds before (UnaskedSeed now peer e) = drop 1 before
 waiting seeds before _ = before
@@ -203,7 +212,8 @@ pub record MayAskInTurn (plan : Plan) (since : ℕ) (before : List Turn) (now : 
 
 -- Whether a turn is one that the turns before it leave to be done by a plan, at its moment, before the plan's end time,
 -- and for whom it asks. If all others that a look shows are gone, the seeds are to be asked. (Else they are if no
--- Page has been heard, which contracts don't see.) This member leaves only if its plan says so.
+-- Page has been heard, which contracts don't see.) The loop learns addresses, and this member leaves, only if its plan
+-- says so.
 abbrev pub IsTimely : Plan → ℕ → List Turn → Turn → Type 0
 IsTimely plan since before (Paused now) = (now < plan.until) × IsIdleTime plan since before now
 IsTimely plan since before (Ticked now words r sent) = now < plan.until
@@ -223,6 +233,7 @@ IsTimely plan since before (UnaskedMember now words seen peer e) =
 IsTimely plan since before (FoundNobody now seen) =
     MayAskMember plan since before now × (others_of plan.name (view_after seen) ≡ [])
 IsTimely plan since before (Unfound now) = MayAskMember plan since before now
+IsTimely plan since before (Learned now found) = (now < plan.until) × (plan.learns ≡ true)
 IsTimely plan since before (Departed now words r sent) = plan.leaves ≡ true
 IsTimely plan since before (Undeparted now words e) = plan.leaves ≡ true
 IsTimely plan since before _ = Unit {0}

@@ -13,7 +13,10 @@ use Rattle.lg_turns.specs.Meaning.Pulling.{is_seeds_turn, seed_turns, IsChosen, 
 abbrev pub plan : Plan
 plan = record {
   name = b ∷ [];
+  own = at 7002;
+  fixed = record { items = at 7000 ∷ at 7001 ∷ [] };
   seeds = record { items = at 7000 ∷ at 7001 ∷ [] };
+  learns = false;
   interval_ms = 100;
   pull_ms = 300;
   until = 10000;
@@ -48,7 +51,7 @@ the_first_look = refl
 the_next_look : next_look 0 (Looked 1003 (seeded ∷ []) true ∷ Paused 1020 ∷ Unlooked 2007 ∷ []) ≡ 3007
 the_next_look = refl
 
-abbrev receipt : Receipt
+abbrev pub receipt : Receipt
 receipt = record { place = 1; reply = nothing 0 }
 
 -- A look says that the seeds are to be asked. When one was, the other waits.

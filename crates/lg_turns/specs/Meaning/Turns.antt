@@ -39,7 +39,8 @@ use Rattle.lg_turns.specs.Meaning.Links.LinkEvent.{Received, Silent, Failed}
 -- - a member at an address was asked at a moment for its table. Random words had chosen it among the members of a look,
 --   which answered from these events. The receipt and the packets sent are as above. Or the call for it was refused;
 -- - a member was to be asked at a moment, and a look that answered from these events showed no other; or that look was
---   refused.
+--   refused;
+-- - the loop learned at a moment which addresses the hosts among the seeds have.
 -- A turn of a ticking loop that is to stop, if this member leaves its group then:
 -- - this member left at a moment, by random words, with this receipt, and these of the reply's packets were sent;
 -- - the call for it was refused.
@@ -66,6 +67,7 @@ pub data Turn : Type 0 where
   UnaskedMember : ℕ → List ℕ → List Event → Addr → Refusal → Turn
   FoundNobody : ℕ → List Event → Turn
   Unfound : ℕ → Turn
+  Learned : ℕ → List Addr → Turn
   Departed : ℕ → List ℕ → Receipt → List Bool → Turn
   Undeparted : ℕ → List ℕ → Refusal → Turn
   Pulled : ℕ → Addr → Receipt → List Bool → Turn
@@ -95,6 +97,7 @@ is_of_ticking (AskedMember now words seen peer r sent) = true
 is_of_ticking (UnaskedMember now words seen peer e) = true
 is_of_ticking (FoundNobody now seen) = true
 is_of_ticking (Unfound now) = true
+is_of_ticking (Learned now found) = true
 is_of_ticking (Departed now words r sent) = true
 is_of_ticking (Undeparted now words e) = true
 is_of_ticking _ = false
@@ -189,9 +192,9 @@ abbrev pub MadeNoCall : PassValue → PassValue → Type 0
 MadeNoCall p q = (q ≡ p) ⊎ IsRotatedPass p q
 
 -- What a turn does with the pass. If a datagram is a packet, it is heard. If the next deadline has come, there is a
--- tick, and only otherwise the loop looks at the members or asks one of them. A member leaves whatever is due. Each
--- packet of the reply was sent or not. A call counts once, even if it was refused because the history was full and was
--- made again after a rotation.
+-- tick, and only otherwise the loop looks at the members, asks one of them, or learns addresses. A member leaves
+-- whatever is due. Each packet of the reply was sent or not. A call counts once, even if it was refused because the
+-- history was full and was made again after a rotation.
 abbrev pub IsTurn : PassValue → Turn → PassValue → Type 0
 IsTurn p (Quiet limit) q = q ≡ p
 IsTurn p Broken q = q ≡ p
@@ -225,6 +228,7 @@ IsTurn p (UnaskedMember now words seen peer e) q =
     (m : PassValue) × SeesMembers p now seen m × MadeNoCall m q × IsRefusal m.seen e
 IsTurn p (FoundNobody now seen) q = SeesMembers p now seen q
 IsTurn p (Unfound now) q = SeesNoneDue p now q
+IsTurn p (Learned now found) q = SeesNoneDue p now q
 IsTurn p (Departed now words r sent) q =
     IsCall p (events.Leave now words) r q × (length sent ≡ length r.reply.sends.items)
 IsTurn p (Undeparted now words e) q = MadeNoCall p q × IsRefusal p.seen e

@@ -7,7 +7,7 @@ use Rattle.lg_config.proofs.form_reasons.address_reason.Goals as goal
 
 -- the reason with this quote
 abbrev with_quote : List ℕ → List ℕ
-with_quote quote = codes "address is " ++ (quote ++ codes ", and has to be A.B.C.D, each from 0 to 255 without leading zeros, or IPv6\n")
+with_quote quote = codes "address is " ++ (quote ++ codes ", and has to be A.B.C.D, each from 0 to 255 without leading zeros, or IPv6, or auto\n")
 
 pub returns : goal.returns
 returns c =

@@ -1,5 +1,5 @@
 use Rattle.std.proofs.Common.{ap, ◌∙◌}
-use Rattle.toml.specs.View.{members_view, view}
+use Rattle.toml.specs.View.{members_view}
 use Rattle.lg_config.proofs.OptionLaws.{inserted_as}
 use Rattle.lg_config.proofs.given.put_member.Goals as goal
 

@@ -36,6 +36,14 @@ returns-then-deadline-milliseconds g c =
     c.tick.ensures c.args.plan.now c.args.agenda.now c.args.ticker.now.side.pass
     (record { look = e.1; due = c.in-Ok.deadline; deadline = e.0; come = omega (arith, c.if-deadline-milliseconds.true, c.milliseconds.ensures.milliseconds) }) low
 
+pub returns-in-Some-found_for : goal.returns-in-Some-found_for
+returns-in-Some-found_for g c =
+    let low = c.in-Some.ensures in
+    let e = c.in-Ok.ensures in
+    let sees : SeesNoneDue c.args.ticker.now.side.pass c.in-Some.now c.next_deadline.new.self = record { look = e.1; due = c.in-Ok.deadline; deadline = e.0; later = omega (arith, c.if-deadline-milliseconds.false, c.milliseconds.ensures.milliseconds) } in
+    let acted = c.learn.ensures.acted c.args.ticker.now.side.pass sees low c.in-Some-found_for.ensures in
+    (acted.0, rw acted.1 refl)
+
 pub ask_seed-requires : goal.ask_seed-requires
 ask_seed-requires g c = c.in-Seed.ensures.0
 

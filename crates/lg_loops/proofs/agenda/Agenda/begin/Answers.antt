@@ -6,7 +6,7 @@ pub returns : goal.returns
 returns c =
     let plan = c.args.plan.now in
     rw c.at.ensures (record {
-      looked = refl;
+      look = refl;
       asking = asking_from plan c.args.now c.len.result;
       waits = none_waits plan.seeds.items c.len.result (omega (arith, c.len.ensures.value));
     })

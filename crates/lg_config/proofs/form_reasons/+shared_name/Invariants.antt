@@ -1,6 +1,0 @@
-use Rattle.std.proofs.Common.{length}
-use Rattle.lg_config.proofs.form_reasons.+shared_name.Given as goal
-
--- each call is on fewer seeds
-abbrev pub decreases-shared_name : goal.decreases-shared_name
-decreases-shared_name l = length l.seeds.now

@@ -1,0 +1,8 @@
+use Rattle.std.proofs.Common.{ℕ, List, ◌∙◌, inr, subst}
+use Rattle.lg_text.specs.Meaning.Reporting.{Reports}
+use Rattle.lg_run.proofs.own_address.tell_found.Goals as goal
+
+pub returns-in-Ok : goal.returns-in-Ok
+returns-in-Ok g c =
+    let reported = g.F.FaultStream.reported in
+    inr (subst (λ (text : List ℕ). Reports (reported c.args.faults.now) (reported c.report.new.faults) text) (c.as_str.ensures.value ∙ c.in-Ok.ensures) c.report.ensures)
