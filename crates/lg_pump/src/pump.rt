@@ -13,6 +13,7 @@ use std::io;
 use std::io::{ErrorKind, Write};
 use std::rt::Clock;
 use std::sync::{Condvar, Mutex, MutexGuard, Wait};
+use std::time::Instant;
 
 /// What is handed over, and yet to be written by a thread of its own.
 #[derive(Drop)]
@@ -126,13 +127,14 @@ impl Pump {
     ) -> Option<MutexGuard<'_, Queue>> {
         let mut queue = self.queue.lock(rt);
         for _ in rt.forever() {
+            let begun = Instant::now(rt);
             let (back, waited) = self
                 .changed
                 .wait_timeout_while(rt, queue, patience.look(), |queue| !queue.has(needs));
             if !waited.timed_out() {
                 return Some(back);
             }
-            if patience.tire() {
+            if patience.tire(rt, begun) {
                 return None;
             }
             queue = back;
