@@ -4,7 +4,7 @@
 //! Tested in: `lg_node_tests/src/node/asking.rt`, `cases/nodes`.
 ghost use Rattle.std.specs.Prelude.{◌≡◌, ◌+◌, MatchBool};
 ghost use Rattle.std.specs.Net.Socket.{socket_port};
-ghost use Rattle.lg_turns.specs.Meaning.Families.{CameFrom, GoesTo};
+ghost use Rattle.lg_turns.specs.Meaning.Families.{is_ipv6, CameFrom, GoesTo};
 
 use crate::link::{Link, LinkFault, MAX_DATAGRAM};
 use lg_rules::{Addr, Ip};
@@ -33,7 +33,8 @@ pub struct UdpLink<'a> {
 impl<'a> UdpLink<'a> {
     /// A link over a socket that is bound at this address. It hasn't failed yet.
     pub fn new(socket: &'a UdpSocket, bound: Addr) -> UdpLink<'a>
-        ensures { result.failures ≡ 0 }
+        ensures family { result.is_ipv6 ≡ is_ipv6 bound.ip }
+        ensures unfailed { result.failures ≡ 0 }
     {
         UdpLink {
             socket,

@@ -8,6 +8,7 @@ use Rattle.std.specs.Net.Addr.{embedded_segments, ipv6_segments, IsCanonicalOf, 
 use Rattle.std.specs.Net.Socket.{socket_ip, IsPlainSocket}
 use Rattle.lg_rules.specs.declared.addr.Addr.{Addr}
 use Rattle.lg_rules.specs.declared.addr.Ip.{Ip}
+use Rattle.lg_rules.specs.declared.addr.Ip.TheVariants.{V4, V6}
 use Rattle.lg_rules.specs.Meaning.Addr.{IsSocketOf}
 use Rattle.lg_turns.specs.Meaning.Links.{HasBytesOf}
 
@@ -19,6 +20,11 @@ IsUnmapped (ips.V6 given) plain = IsCanonicalOf given plain
 -- a datagram that a socket says came from an address came from the member at this IP address
 abbrev pub CameFrom : SocketAddr → Ip → Type 0
 CameFrom given ip = (plain : IpAddr) × IsUnmapped (socket_ip given) plain × HasBytesOf ip plain
+
+-- whether an IP address is one of IPv6
+abbrev pub is_ipv6 : Ip → Bool
+is_ipv6 (V4 octets) = false
+is_ipv6 (V6 octets) = true
 
 -- the IPv6 address that maps one of IPv4
 abbrev pub IsMapped : IpAddr → IpAddr → Type 0

@@ -3,10 +3,9 @@
 use Rattle.std.specs.Prelude.{◌≡◌, List, [], ◌∷◌, true, false, refl}
 use Rattle.std.proofs.Common.{lit≤, lit<}
 use Rattle.lg_rules.specs.declared.addr.Addr.{Addr}
-use Rattle.lg_detector.specs.Meaning.Examples.{b, at}
+use Rattle.lg_detector.specs.Meaning.Examples.{at}
 use Rattle.lg_detector.specs.Meaning.Examples.{seeded}
 use Rattle.lg_turns.specs.declared.plan.Plan.{Plan}
-use Rattle.lg_turns.specs.Meaning.Turns.{Turn}
 use Rattle.lg_turns.specs.Meaning.Turns.Turn.{Paused, Looked, AskedInTurn, Learned}
 use Rattle.lg_turns.specs.Meaning.Leaving.{lingering, plan_after}
 use Rattle.lg_turns.specs.Meaning.Pulling.{askings_after, next_asking, next_look, waiting_after, AreTimely}
