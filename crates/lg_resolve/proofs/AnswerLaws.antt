@@ -1,6 +1,6 @@
 -- One more answer of a resolver.
 use Rattle.std.proofs.Common.{◌≡◌, Bool, List, [], ◌∷◌, ◌++◌, refl}
-use Rattle.std.specs.Prelude.{Option, Some, None}
+use Rattle.std.specs.Prelude.{Some, None}
 use Rattle.lg_rules.specs.declared.addr.Addr.{Addr}
 use Rattle.lg_resolve.specs.Meaning.Answers.{latest, last_fails, is_unresolved, Found}
 

@@ -1,14 +1,17 @@
 -- One more host of a round, and what becomes of the hosts before it.
 use Rattle.std.proofs.Common.{◌≡◌, ℕ, ◌+◌, ◌<◌, ◌≤◌, List, [], ◌∷◌, ◌++◌, length, get_or, take, zero, suc, refl, ap, sym, ◌∙◌, arith, append-nil, subst}
-use Rattle.std.specs.Prelude.{min}
+use Rattle.std.specs.Prelude.{min, Option}
 use Rattle.std.proofs.Math.Seq.{take-append-add}
 use Rattle.std.proofs.lemmas.List.{length-map, length-take-le, map-append, take_more, take_min}
 use Rattle.std.proofs.lemmas.List.Concat.{flat_map-append}
 use Rattle.lg_rules.specs.declared.addr.Addr.{Addr}
+use Rattle.lg_text.specs.Meaning.Reporting.{Reported}
 use Rattle.lg_config.specs.declared.host.Host.{Host}
 use Rattle.lg_resolve.specs.declared.known.KnownHost.{KnownHost}
-use Rattle.lg_resolve.specs.Meaning.Answers.{answers_by, HostAnswer, Found, IsAfter}
-use Rattle.lg_resolve.specs.Meaning.Rounds.{are_fresh, found_in, hosts_in, longer, AreAfter}
+use Rattle.lg_resolve.specs.declared.known.HostNews.{HostNews}
+use Rattle.lg_resolve.specs.Meaning.Answers.{answers_by, news_of, HostAnswer, Found, IsAfter}
+use Rattle.lg_resolve.specs.Meaning.Lines.{Tells}
+use Rattle.lg_resolve.specs.Meaning.Rounds.{are_fresh, found_in, hosts_in, longer, AreAfter, TellsEach}
 
 -- as many histories as hosts
 pub same_count : (histories : List (List Found)) (rows : List KnownHost) → AreAfter histories rows → length histories ≡ length rows
@@ -97,3 +100,36 @@ round_more histories rows after found i k l f all there is many so_far next =
     let whole : longer (take (i + 1) histories) (found ++ f ∷ []) ≡ longer (take i histories) found ++ (h ++ f ∷ []) ∷ [] =
     ap (λ (x : List (List Found)). longer x (found ++ f ∷ [])) more ∙ longer_more (take i histories) found h f same in
     subst (λ (x : List (List Found)). AreAfter x (after ++ l ∷ [])) (sym whole) (after_more (longer (take i histories) found) after (h ++ f ∷ []) l so_far (next h here))
+
+-- the news of one more host
+told_more : (hosts : List Host) (histories : List (List Found)) (found : List Found) (host : Host) (h : List Found) (f : Found) (before so_far after : Reported)
+    → length hosts ≡ length found → length histories ≡ length found → TellsEach before so_far hosts histories found → Tells so_far after host.name (news_of h f)
+    → TellsEach before after (hosts ++ host ∷ []) (histories ++ h ∷ []) (found ++ f ∷ [])
+told_more [] [] [] host h f before so_far after same each told one = (after, subst (λ (r : Reported). Tells r after host.name (news_of h f)) told one, refl)
+told_more [] [] (e ∷ found) host h f before so_far after same each told one = absurd (omega (arith, same))
+told_more [] (g ∷ histories) [] host h f before so_far after same each told one = absurd (omega (arith, each))
+told_more [] (g ∷ histories) (e ∷ found) host h f before so_far after same each told one = absurd (omega (arith, same))
+told_more (j ∷ hosts) [] [] host h f before so_far after same each told one = absurd (omega (arith, same))
+told_more (j ∷ hosts) [] (e ∷ found) host h f before so_far after same each told one = absurd (omega (arith, each))
+told_more (j ∷ hosts) (g ∷ histories) [] host h f before so_far after same each told one = absurd (omega (arith, same))
+told_more (j ∷ hosts) (g ∷ histories) (e ∷ found) host h f before so_far after same each told one =
+    (told.0, told.1, told_more hosts histories found host h f told.0 so_far after (omega (arith, same)) (omega (arith, each)) told.2 one)
+
+-- What was told in a round of so many hosts, and of one more.
+pub news_more : (histories : List (List Found)) (rows : List KnownHost) (found : List Found) (i : ℕ) (k : KnownHost) (f : Found) (news : Option HostNews)
+    (before so_far after : Reported) → AreAfter histories rows → i < length rows → k ≡ get_or rows i k → length found ≡ i
+    → TellsEach before so_far (hosts_in (take i rows)) (take i histories) found → ((answers : List Found) → IsAfter answers k → news ≡ news_of answers f)
+    → Tells so_far after k.host.name news
+    → TellsEach before after (hosts_in (take (i + 1) rows)) (take (i + 1) histories) (found ++ f ∷ [])
+news_more histories rows found i k f news before so_far after all there is many told by one =
+    let h : List Found = get_or histories i [] in
+    let count : length histories ≡ length rows = same_count histories rows all in
+    let here : IsAfter h k = subst (λ (x : KnownHost). IsAfter h x) (sym is) (after_at histories rows i k all there) in
+    let more : take (i + 1) histories ≡ take i histories ++ h ∷ [] = take_more histories i [] (omega (arith, count, there)) in
+    let same : length (take i histories) ≡ length found = length-take-le i histories (omega (arith, count, there)) ∙ sym many in
+    let hosts : length (hosts_in (take i rows)) ≡ length found = host_count rows i (omega (arith, there)) ∙ sym many in
+    let whole : TellsEach before after (hosts_in (take i rows) ++ k.host ∷ []) (take i histories ++ h ∷ []) (found ++ f ∷ []) =
+    told_more (hosts_in (take i rows)) (take i histories) found k.host h f before so_far after hosts same told
+    (subst (λ (n : Option HostNews). Tells so_far after k.host.name n) (by h here) one) in
+    subst (λ (x : List (List Found)). TellsEach before after (hosts_in (take (i + 1) rows)) x (found ++ f ∷ [])) (sym more)
+    (subst (λ (x : List Host). TellsEach before after x (take i histories ++ h ∷ []) (found ++ f ∷ [])) (sym (hosts_more rows i k there is)) whole)

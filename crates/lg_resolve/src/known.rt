@@ -12,18 +12,18 @@ use lg_rules::Addr;
 
 /// A host, and what is known of it.
 #[derive(Debug, Default, Drop)]
-pub struct KnownHost {
+pub(crate) struct KnownHost {
     /// The host.
-    pub host: Host,
+    pub(crate) host: Host,
     /// The addresses that it was found to have the last time that it resolved. There are none before that.
-    pub addrs: ArrayVec<Addr, MAX_OF_HOST>,
+    pub(crate) addrs: ArrayVec<Addr, MAX_OF_HOST>,
     /// Whether it didn't resolve the last time.
-    pub fails: bool,
+    pub(crate) fails: bool,
 }
 
 /// What is told of a host.
 #[derive(Clone, Copy, Debug, PartialEq, Eq)]
-pub enum News {
+pub(crate) enum HostNews {
     /// Its name doesn't resolve, and it did before, or wasn't resolved before.
     Fails,
     /// Its name resolves again.
@@ -32,7 +32,7 @@ pub enum News {
 
 impl KnownHost {
     /// A host of which nothing was answered.
-    pub fn new(host: Host) -> KnownHost
+    pub(crate) fn new(host: Host) -> KnownHost
         ensures host { result.host ≡ host }
         ensures after { IsAfter [] result }
     {
@@ -44,19 +44,19 @@ impl KnownHost {
     }
 
     /// What is to be told if this is answered next.
-    pub fn news(&self, found: &Option<ArrayVec<Addr, MAX_OF_HOST>>) -> Option<News>
+    pub(crate) fn news(&self, found: &Option<ArrayVec<Addr, MAX_OF_HOST>>) -> Option<HostNews>
         ensures { (answers : List Found) → IsAfter answers self.now → result ≡ news_of answers (found_of found.now) }
     {
         match (found, self.fails) {
-            (None, false) => Some(News::Fails),
-            (Some(_), true) => Some(News::Resolves),
+            (None, false) => Some(HostNews::Fails),
+            (Some(_), true) => Some(HostNews::Resolves),
             (None, true) | (Some(_), false) => None,
         }
     }
 
     /// What is known of the host after one more answer. If it says that the host doesn't resolve, the addresses that
     /// were found before stay.
-    pub fn after(&self, found: Option<ArrayVec<Addr, MAX_OF_HOST>>) -> KnownHost
+    pub(crate) fn after(&self, found: Option<ArrayVec<Addr, MAX_OF_HOST>>) -> KnownHost
         ensures host { result.host ≡ self.now.host }
         ensures after { (answers : List Found) → IsAfter answers self.now
             → IsAfter (answers ++ found_of found ∷ []) result }

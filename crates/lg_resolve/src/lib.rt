@@ -13,7 +13,6 @@ mod seed_hosts;
 mod streams;
 mod thread;
 
-pub use known::KnownHost;
 pub use resolver::{Families, MAX_OF_HOST, NetResolver, Resolver};
 pub use seed_hosts::{FIRST_RETRY_MS, SeedHosts};
 pub use streams::FaultStreams;

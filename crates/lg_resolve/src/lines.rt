@@ -5,19 +5,21 @@
 ghost use Rattle.std.specs.Prelude.{◌≡◌, IfOk, string_bytes};
 ghost use Rattle.lg_resolve.specs.Meaning.Lines.{news_line, Tells};
 
-use crate::known::News;
+use crate::known::HostNews;
 use lg_config::HostName;
 use lg_text::{FaultStream, report};
 use std::alloc::{AllocError, Global};
 
 /// The line of some news of a host. Allocates the line; the only error is that memory was refused.
-fn news_line(alloc: Global, name: &HostName, news: News) -> Result<String, AllocError>
+fn news_line(alloc: Global, name: &HostName, news: HostNews) -> Result<String, AllocError>
     ensures { IfOk result (λ text. string_bytes text ≡ news_line name.now news) }
 {
     let host = name.as_str();
     match news {
-        News::Fails => { format!(in alloc; "lg: the host {host} of the seeds doesn't resolve\n") }
-        News::Resolves => format!(in alloc; "lg: the host {host} of the seeds resolves\n"),
+        HostNews::Fails => {
+            format!(in alloc; "lg: the host {host} of the seeds doesn't resolve\n")
+        }
+        HostNews::Resolves => format!(in alloc; "lg: the host {host} of the seeds resolves\n"),
     }
 }
 
@@ -26,7 +28,7 @@ fn news_line(alloc: Global, name: &HostName, news: News) -> Result<String, Alloc
 pub(crate) fn tell_news<F: FaultStream>(
     alloc: Global,
     name: &HostName,
-    news: Option<News>,
+    news: Option<HostNews>,
     faults: &mut F,
 )
     ensures { Tells (F.reported faults.old) (F.reported faults.new) name.now news }

@@ -5,8 +5,8 @@
 ghost use Rattle.std.specs.Prelude.{◌≡◌, ◌<◌, ◌≤◌, ◌++◌, true, ℕ, List, length, map, take};
 ghost use Rattle.arrayvec.specs.ArrayVec.{array_vec_len};
 ghost use Rattle.lg_resolve.specs.Meaning.Answers.{answers_by, Found};
-ghost use Rattle.lg_resolve.specs.Meaning.Rounds.{are_fresh, fails_any, found_in, hosts_in, longer, next_wait};
-ghost use Rattle.lg_resolve.specs.Meaning.Rounds.{AreAfter};
+ghost use Rattle.lg_resolve.specs.Meaning.Rounds.{are_fresh, fails_any, found_in, hosts_in, next_wait};
+ghost use Rattle.lg_resolve.specs.Meaning.Rounds.{AreAfter, IsRound};
 
 use crate::known::KnownHost;
 use crate::lines::tell_news;
@@ -53,9 +53,9 @@ impl SeedHosts {
     )
         ensures hosts { hosts_in self.new.rows.items ≡ hosts_in self.old.rows.items }
         ensures after { (histories : List (List Found)) → AreAfter histories self.old.rows.items
-            → (found : List Found) × AreAfter (longer histories found) self.new.rows.items
-            × (S.tells ≡ true → S.log resolver.new
-            ≡ S.log resolver.old ++ answers_by (hosts_in self.old.rows.items) found) }
+            → (found : List Found) × IsRound histories found self.old.rows.items self.new.rows.items
+            (F.reported faults.old) (F.reported faults.new) × (S.tells ≡ true
+            → S.log resolver.new ≡ S.log resolver.old ++ answers_by (hosts_in self.old.rows.items) found) }
     {
         let mut rows = ArrayVec::new();
         for known in self.rows.as_slice() {

@@ -7,8 +7,8 @@ use Rattle.lg_rules.specs.declared.addr.Ip.{Ip}
 use Rattle.lg_rules.specs.declared.addr.Ip.TheVariants as ip
 use Rattle.lg_config.specs.declared.host.Host.{Host}
 use Rattle.lg_resolve.specs.declared.known.KnownHost.{KnownHost}
-use Rattle.lg_resolve.specs.declared.known.News.{News}
-use Rattle.lg_resolve.specs.declared.known.News.TheVariants.{Fails, Resolves}
+use Rattle.lg_resolve.specs.declared.known.HostNews.{HostNews}
+use Rattle.lg_resolve.specs.declared.known.HostNews.TheVariants.{Fails, Resolves}
 use Rattle.lg_resolve.specs.declared.resolver.Families.{Families}
 use Rattle.lg_resolve.specs.declared.resolver.Families.TheVariants.{Ipv4, Both}
 
@@ -56,7 +56,7 @@ fails_by answers = last_fails false answers
 
 -- What is told of a host if this is answered after other answers: that its name doesn't resolve, if that is new, and
 -- that it resolves again.
-abbrev pub news_of : List Found → Found → Option News
+abbrev pub news_of : List Found → Found → Option HostNews
 news_of answers None = if fails_by answers then None else Some Fails
 news_of answers (Some addrs) = if fails_by answers then Some Resolves else None
 

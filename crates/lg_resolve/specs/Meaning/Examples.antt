@@ -1,12 +1,15 @@
 -- Worked answers of a resolver.
 use Rattle.std.specs.Prelude.{◌≡◌, ℕ, List, [], ◌∷◌, Some, None, true, false, codes, refl}
+use Rattle.std.proofs.Common.{inl}
 use Rattle.lg_rules.specs.declared.addr.Addr.{Addr}
 use Rattle.lg_rules.specs.declared.addr.Ip.TheVariants as ip
-use Rattle.lg_resolve.specs.declared.known.News.TheVariants.{Fails, Resolves}
+use Rattle.lg_text.specs.Meaning.Reporting.{Reported, Reports}
+use Rattle.lg_config.specs.declared.host.Host.{Host}
+use Rattle.lg_resolve.specs.declared.known.HostNews.TheVariants.{Fails, Resolves}
 use Rattle.lg_resolve.specs.declared.resolver.Families.TheVariants.{Ipv4, Both}
 use Rattle.lg_resolve.specs.Meaning.Answers.{addrs_by, fails_by, is_reached, news_of, Found}
 use Rattle.lg_resolve.specs.Meaning.Lines.{news_line}
-use Rattle.lg_resolve.specs.Meaning.Rounds.{longer, next_wait}
+use Rattle.lg_resolve.specs.Meaning.Rounds.{longer, next_wait, TellsEach}
 
 abbrev at : ℕ → Addr
 at last = record { ip = ip.V4 (10 ∷ 0 ∷ 0 ∷ last ∷ []); port = 7946 }
@@ -54,6 +57,15 @@ a_round :
     longer ((None ∷ []) ∷ [] ∷ []) (Some (at 5 ∷ []) ∷ None ∷ [])
     ≡ (None ∷ Some (at 5 ∷ []) ∷ []) ∷ (None ∷ []) ∷ []
 a_round = refl
+
+-- In a round the name of the first host resolves again, and that of the second resolves as before: one line is told.
+abbrev two_hosts : List Host
+two_hosts = record { name = codes "db.example"; port = 7946 } ∷ record { name = codes "api.example"; port = 7946 } ∷ []
+
+told_of_the_first :
+    (before after : Reported) → Reports before after (codes "lg: the host db.example of the seeds resolves\n")
+    → TellsEach before after two_hosts ((None ∷ []) ∷ (Some (at 5 ∷ []) ∷ []) ∷ []) (Some (at 6 ∷ []) ∷ Some (at 5 ∷ []) ∷ [])
+told_of_the_first before after reports = (after, inl reports, (after, refl, refl))
 
 -- the next round comes soon after a failure, and never later than each minute
 soon : next_wait true 2000 60000 ≡ 2000

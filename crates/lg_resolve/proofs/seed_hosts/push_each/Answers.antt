@@ -1,5 +1,4 @@
 use Rattle.std.proofs.Common.{◌≡◌, ◌+◌, ◌-◌, ◌++◌, ◌∙◌, ℕ, length, take, ap, arith, rules}
-use Rattle.std.specs.Prelude.{min}
 use Rattle.lg_resolve.proofs.RoundLaws.{room_for}
 use Rattle.lg_resolve.proofs.seed_hosts.push_each.Goals as goal
 

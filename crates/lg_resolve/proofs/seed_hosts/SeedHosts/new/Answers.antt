@@ -3,7 +3,7 @@ use Rattle.std.proofs.lemmas.List.{map-append, take_more}
 use Rattle.lg_config.specs.declared.host.Host.{Host}
 use Rattle.lg_resolve.specs.declared.known.KnownHost.{KnownHost}
 use Rattle.lg_resolve.specs.Meaning.Answers.{Found}
-use Rattle.lg_resolve.specs.Meaning.Rounds.{are_fresh, hosts_in, AreAfter}
+use Rattle.lg_resolve.specs.Meaning.Rounds.{are_fresh, AreAfter}
 use Rattle.lg_resolve.proofs.RoundLaws.{after_more, fresh_more}
 use Rattle.lg_resolve.proofs.seed_hosts.SeedHosts.new.Goals as goal
 

@@ -1,4 +1,4 @@
-use Rattle.std.proofs.Common.{◌≡◌, ◌≤◌, length, take}
+use Rattle.std.proofs.Common.{◌≡◌, length, take}
 use Rattle.lg_resolve.specs.Meaning.Rounds.{are_fresh, hosts_in, AreAfter}
 use Rattle.lg_resolve.proofs.seed_hosts.SeedHosts.new.Given as goal
 
