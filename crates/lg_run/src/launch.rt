@@ -5,28 +5,27 @@
 //! Tested in: `cases/node.case`, `lg_command_tests/src/launch/ends.rt`.
 ghost use Rattle.std.specs.Prelude.{◌≡◌, ◌⊎◌, ℕ, List, [], Err, OnErr, OnOk, string_bytes};
 ghost use Rattle.std.specs.Option.{option_map};
-ghost use Rattle.lg_timing.specs.Meaning.Config.{IsChecked};
-ghost use Rattle.lg_config.specs.Meaning.Options.{options_of, source_of};
+ghost use Rattle.lg_config.specs.Meaning.Options.{source_of};
 ghost use Rattle.lg_run.specs.Meaning.Running.{node_settings, table_wished, Announces, IsSecond, RunsBytes};
-ghost use Rattle.lg_run.specs.Meaning.Running.{RunsStarted, TellsNoAddress, Writes};
+ghost use Rattle.lg_run.specs.Meaning.Running.{Writes};
 ghost use Rattle.lg_run.specs.Meaning.Reporting.{ReportsBoth};
 ghost use Rattle.lg_run.specs.Meaning.Telling.{line_of, status_told};
 ghost use Rattle.lg_run.specs.Meaning.Words.{link_reason, start_line};
 
+use crate::configured::configured;
 use crate::first::{started_at, system_time};
 use crate::key_file::{keys_at, tell_no_keys};
-use crate::own_address::{NoAddress, with_own_address};
-use crate::reporting::{tell, tell_both, tell_fault};
+use crate::reporting::{tell, tell_both};
 use crate::resolving::resolved_seeds;
 use crate::telling::table_of;
 use crate::told::Told;
 use crate::wishes::{Wishes, end_wished, is_announced};
-use crate::words::{link_reason, start_line, unfound_reason};
+use crate::words::{link_reason, start_line};
 use arrayvec::ArrayVec;
-use lg_config::{Given, NodeConfig, ReadFault};
+use lg_config::NodeConfig;
 use lg_lines::put_table;
 use lg_loops::NodeLoops;
-use lg_node::{NodeEnd, NodeFault, NodeStart, Settings, run_node};
+use lg_node::{NodeEnd, NodeFault, NodeStart, ResolvedSeeds, Settings, run_node};
 use lg_resolve::FaultStreams;
 use lg_rules::{Addr, Record};
 use lg_seal::Keys;
@@ -37,7 +36,7 @@ use std::net::{Net, TcpListener, TcpStream};
 use std::random::RandomSource;
 use std::rt;
 use std::rt::Files;
-use std::sync::Wait;
+use std::sync::{Arc, Wait};
 use std::thread::Threads;
 
 /// Runs the node that the bytes of a file and options mean together, with the keys of the file that it names, if it
@@ -93,55 +92,10 @@ where
         wishes.now.until wishes.now.follow result }
 {
     let given = wishes.source.given;
-    let node = match NodeConfig::read(alloc, bytes, given) {
-        Ok(node) => node,
-        Err(ReadFault::NoMemory) => return tell(Told::Memory, faults),
-        Err(ReadFault::File(fault)) => return tell_fault(alloc, bytes, given, fault, faults),
+    let node = match configured(rt, alloc, bytes, given, faults) {
+        Ok(node) => started_at(system_time(rt), node),
+        Err(status) => return status,
     };
-    match with_own_address(rt, alloc, node, faults) {
-        Ok(node) => run_found(rt, alloc, node, wishes, writer, faults),
-        Err(none) => tell_no_address(alloc, bytes, given, none, faults),
-    }
-}
-
-/// Reports why a node has no address of its own in two lines, and gives the status. If memory for the second is
-/// refused, only the first is reported.
-fn tell_no_address<F: FaultStream>(
-    alloc: Global,
-    bytes: &[u8],
-    given: &[Given<'_>],
-    none: NoAddress,
-    faults: &mut F,
-) -> u8
-    ensures { TellsNoAddress (F.reported faults.old) (F.reported faults.new) (options_of given.now) bytes.now none
-        result }
-{
-    match none {
-        NoAddress::Unfound => tell_both(Told::Link, unfound_reason(), faults),
-        NoAddress::Fault(fault) => tell_fault(alloc, bytes, given, fault, faults),
-    }
-}
-
-/// Runs the node of a configuration whose own address is known, as [`run_bytes`] says.
-fn run_found<R, W, F>(
-    rt: &R,
-    alloc: Global,
-    node: NodeConfig,
-    wishes: &Wishes<'_>,
-    writer: &mut W,
-    faults: &mut F,
-) -> u8
-where
-    R: AllocGlobal + Wait + Threads + rt::Clock + Files + RandomSource + FaultStreams,
-    R: Net<Listener = TcpListener, Stream = TcpStream> + Copy + Send + Sync + 'static,
-    W: Write + Send,
-    F: FaultStream + Send,
-    requires { IsChecked node.config }
-    ensures { RunsStarted writer.old writer.new (W.contents writer.old) (W.contents writer.new)
-        (F.reported faults.old) (F.reported faults.new) (source_of wishes.now.source).file node
-        wishes.now.until wishes.now.follow result }
-{
-    let node = started_at(system_time(rt), node);
     let keys = match keys_at(rt, alloc, &node.key_file) {
         Ok(keys) => keys,
         Err(fault) => {
@@ -149,13 +103,7 @@ where
             return tell_no_keys(fault, faults);
         }
     };
-    let Ok(resolved) = resolved_seeds(rt, alloc, &node) else {
-        drop(keys);
-        drop(node);
-        return tell(Told::Memory, faults);
-    };
-    let Ok(()) = announce(alloc, wishes, &node, faults) else {
-        drop(resolved);
+    let Ok(resolved) = prepare(rt, alloc, wishes, &node, faults) else {
         drop(keys);
         drop(node);
         return tell(Told::Memory, faults);
@@ -202,22 +150,29 @@ fn settings_of(node: &NodeConfig, keys: Option<Keys>, follow: bool) -> Settings
     }
 }
 
-/// Announces a node, if it is to be announced. If memory for the line is refused, nothing is reported.
-fn announce<F: FaultStream>(
+/// Starts the thread that resolves the hosts among a node's seeds, if there are any, and announces the node, if it is
+/// to be announced. If memory for either or the thread is refused, nothing is reported.
+fn prepare<R, F>(
+    rt: &R,
     alloc: Global,
     wishes: &Wishes<'_>,
     node: &NodeConfig,
     faults: &mut F,
-) -> Result<(), AllocError>
+) -> Result<Arc<ResolvedSeeds, Global>, AllocError>
+where
+    R: AllocGlobal + Wait + Threads + rt::Clock + FaultStreams,
+    R: Net<Listener = TcpListener, Stream = TcpStream> + Copy + Send + 'static,
+    F: FaultStream,
     ensures said { OnOk result (Announces wishes.now.until wishes.now.follow (F.reported faults.old)
         (F.reported faults.new) (start_line (source_of wishes.now.source).file node.now)) }
     ensures refused { OnErr result (faults.new ≡ faults.old) }
 {
+    let resolved = resolved_seeds(rt, alloc, node)?;
     if is_announced(wishes) {
         let line = start_line(alloc, wishes.source.file, node)?;
         report(faults, line.as_str());
     }
-    Ok(())
+    Ok(resolved)
 }
 
 /// Why an address can't be bound. It is empty if memory for it was refused.

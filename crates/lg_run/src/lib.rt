@@ -7,6 +7,7 @@
 #![tactic(auto)]
 
 mod checking;
+mod configured;
 mod file;
 mod first;
 mod key_file;

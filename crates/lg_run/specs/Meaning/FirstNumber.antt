@@ -1,7 +1,6 @@
 -- The number of a node's first probe or relay (this project's choice). It follows from when the node starts and from
 -- its dice, so that an Ack that was recorded before a start fits none of the probes behind it, but by chance.
 use Rattle.std.specs.Prelude.{ℕ, ◌+◌, ◌%◌}
-use Rattle.lg_timing.specs.declared.config.Config.{Config}
 use Rattle.lg_timing.specs.declared.keys.Key.TheVariants.{First}
 use Rattle.lg_timing.specs.Meaning.Keys.{row_of, with_number}
 use Rattle.lg_config.specs.declared.node.NodeConfig.{NodeConfig}

@@ -30,7 +30,7 @@ use Rattle.lg_run.specs.Meaning.KeyTelling.{TellsNoKeys}
 use Rattle.lg_run.specs.declared.own_address.NoAddress.{NoAddress}
 use Rattle.lg_run.specs.declared.own_address.NoAddress.TheVariants.{Unfound, Fault}
 use Rattle.lg_run.specs.Meaning.OwnAddress.{HasOwnAddress, LacksOwnAddress}
-use Rattle.lg_run.specs.Meaning.Reporting.{AreBytesOf, LacksBytes, ReportsBoth, TellsAlone, TellsFault}
+use Rattle.lg_run.specs.Meaning.Reporting.{AreBytesOf, LacksBytes, ReportsBoth, TellsAlone, TellsFault, TellsLine}
 use Rattle.lg_run.specs.Meaning.Telling.{ending, line_of, run_told, status_told}
 use Rattle.lg_run.specs.Meaning.Wishes.{end_wished, is_announced}
 use Rattle.lg_run.specs.Meaning.Words.{link_reason, start_line, unfound_reason}
@@ -188,29 +188,35 @@ TellsNoAddress reported reports options bytes Unfound status = TellsUnfound repo
 TellsNoAddress reported reports options bytes (Fault fault) status =
     TellsFault reported reports options bytes fault status
 
--- A configuration that was read is run, with its own address found if that is to be found. If it has none, or no
--- configuration was read, the reason is told.
-abbrev pub RunsConfig :
-    {W : Type 0} → (before after : W) (held holds : Option (List ℕ)) (reported reports : Reported) (bytes : List ℕ)
-    (source : SourceValue) → Result NodeConfig ReadFault → (until : Option ℕ) (follow : Bool) (status : ℕ) → Type 0
-RunsConfig before after held holds reported reports bytes source (Ok n) until follow status =
-    ((found : NodeConfig) × (told : Reported) × HasOwnAddress n reported told found
-    × RunsStarted before after held holds told reports source.file found until follow status)
-    ⊎ ((none : NoAddress) × LacksOwnAddress n none × (after ≡ before)
-    × TellsNoAddress reported reports source.options bytes none status)
-RunsConfig before after held holds reported reports bytes source (Err NoMemory) until follow status =
-    TellsAlone before after reported reports Memory status
-RunsConfig before after held holds reported reports bytes source (Err (File fault)) until follow status =
-    (after ≡ before) × TellsFault reported reports source.options bytes fault status
+-- It is told why there is no configuration to run, by what was read: memory was refused, it has a fault, or it has no
+-- address of its own.
+abbrev pub LacksConfig :
+    (reported reports : Reported) → Options → (bytes : List ℕ) → Result NodeConfig ReadFault → (status : ℕ) → Type 0
+LacksConfig reported reports options bytes (Ok n) status =
+    (none : NoAddress) × LacksOwnAddress n none × TellsNoAddress reported reports options bytes none status
+LacksConfig reported reports options bytes (Err NoMemory) status = TellsLine reported reports Memory status
+LacksConfig reported reports options bytes (Err (File fault)) status =
+    TellsFault reported reports options bytes fault status
 
--- The bytes of a file and options are read as a configuration, and the configuration is run.
+-- A configuration that was read is run, with its own address found if that is to be found.
+abbrev pub RunsConfig :
+    {W : Type 0} → (before after : W) (held holds : Option (List ℕ)) (reported reports : Reported)
+    (source : SourceValue) → Result NodeConfig ReadFault → (until : Option ℕ) (follow : Bool) (status : ℕ) → Type 0
+RunsConfig before after held holds reported reports source (Ok n) until follow status =
+    (found : NodeConfig) × (told : Reported) × HasOwnAddress n reported told found
+    × RunsStarted before after held holds told reports source.file found until follow status
+RunsConfig before after held holds reported reports source (Err fault) until follow status = ⊥
+
+-- The bytes of a file and options are read as a configuration, and the configuration is run. If there is none to run,
+-- that is told, and nothing is written.
 pub record RunsBytes
     {W : Type 0} (before after : W) (held holds : Option (List ℕ)) (reported reports : Reported) (bytes : List ℕ)
     (source : SourceValue) (until : Option ℕ) (follow : Bool) (status : ℕ)
     : Type 0 where
   pub answer : Result NodeConfig ReadFault
   pub read : IsAnswer source.options bytes answer
-  pub runs : RunsConfig before after held holds reported reports bytes source answer until follow status
+  pub runs : RunsConfig before after held holds reported reports source answer until follow status
+      ⊎ ((after ≡ before) × LacksConfig reported reports source.options bytes answer status)
 
 -- There are some bytes of the file that is named, or none if no file is, and these are run. Or it is told why there are
 -- no bytes to read, and then nothing is written.
