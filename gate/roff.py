@@ -9,7 +9,7 @@ import textwrap
 from dataclasses import dataclass, field
 
 # How many characters a line of a page has in its source, and the greatest width of a table that is shown as one.
-LINE, TABLE = 78, 66
+LINE, TABLE = 78, 70
 # A tag of a list that is longer has lines of its own, and a word that is longer may be broken.
 TAG, WORD = 56, 40
 # In a list that stands for a table, cells up to this length share a line, and a number takes a name up to this along.
@@ -229,7 +229,7 @@ class Page:
     def put_table(self, block):
         head, *rows = block.parts
         widths = [max(len(plain(it)) for it in column) for column in zip(*block.parts)]
-        if sum(widths) + 3 * len(widths) <= TABLE:
+        if sum(widths) + 3 * (len(widths) - 1) <= TABLE:
             self.put_narrow(head, rows)
         else:
             self.put_wide(head, rows)
