@@ -56,22 +56,29 @@ def kind_of(line):
     return "list" if ITEM.fullmatch(line) else "paragraph"
 
 
+def goes_on(kind, line):
+    """Whether a block of this kind goes on with a line."""
+    return line.strip() and (kind_of(line) == kind or kind == "list" and line.startswith(" "))
+
+
 def block_of(lines):
     """The block that these lines begin with, and how many of them it has."""
     kind, count = kind_of(lines[0]), 1
     if kind == "code":
-        count = next(at for at, line in enumerate(lines) if at and line.startswith(FENCE))
+        count = next((at for at, line in enumerate(lines) if at and line.startswith(FENCE)), len(lines))
         return Block(kind, lines[1:count]), count + 1
     if kind in ("heading", "comment"):
         found = HEADING.fullmatch(lines[0])
         return Block(kind, [found[2] if found else lines[0][4:-3].strip()], len(found[1]) if found else 0), 1
-    while count < len(lines) and lines[count].strip() and kind_of(lines[count]) in (kind, "paragraph"):
+    while count < len(lines) and goes_on(kind, lines[count]):
         count += 1
     if kind == "table":
         rows = [cells_of(it) for it in lines[:count]]
         return Block(kind, rows[:1] + rows[2:]), count
     if kind == "list":
-        return Block(kind, [list(ITEM.fullmatch(it).groups()) for it in lines[:count]]), count
+        # A line that is set in belongs to the item above it.
+        items = re.sub(r"\n +", " ", "\n".join(lines[:count])).split("\n")
+        return Block(kind, [list(ITEM.fullmatch(it).groups()) for it in items]), count
     return Block(kind, [" ".join(it.strip() for it in lines[:count])]), count
 
 
