@@ -1,13 +1,11 @@
 """Shells that complete a line: bash and zsh at a pseudo terminal, and fish, which tells its completions when asked."""
 
-import fcntl
 import os
 import pty
 import select
 import shlex
 import signal
 import subprocess
-import termios
 import time
 
 SECONDS = 10
