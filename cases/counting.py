@@ -1,5 +1,6 @@
 """Checks of what the metrics and the health of a node count, while strangers and the system do something to it."""
 
+import glob
 import signal
 import time
 
@@ -98,13 +99,28 @@ def metrics_count_what_isnt_sent(program):
         return None
 
 
+def stop(process):
+    """Stops a process, and waits until each of its threads stands still: on a busy machine that isn't at once."""
+    process.send_signal(signal.SIGSTOP)
+
+    def stands():
+        states = []
+        for path in glob.glob(f"/proc/{process.pid}/task/*/stat"):
+            with open(path, encoding="utf-8") as it:
+                states.append(it.read().rpartition(")")[2].split()[0])
+        return set(states) == {"T"}
+
+    if wait_until(stands, PATIENCE) is None:
+        raise RuntimeError("the process doesn't stop")
+
+
 def stop_is_told(program):
     """A node is stopped for two seconds. Its health and its metrics tell that it stood still for so long, but for the
     stall_ms of 100, and `lg_uptime_seconds` goes on by the machine's clock."""
     begun = time.monotonic()
     with Lone(program) as node:
         before = samples(node)["lg_uptime_seconds"]
-        node.node.process.send_signal(signal.SIGSTOP)
+        stop(node.node.process)
         time.sleep(STOPPED_SECONDS)
         node.node.process.send_signal(signal.SIGCONT)
         wait_for("b", node.port)

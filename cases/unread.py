@@ -9,6 +9,7 @@ import threading
 import time
 
 from checks import NOTES
+from host import moment
 from packets import HOST, IN_A_PACKET, claim, ping
 from running import (
     LIFE_MS, PATIENCE, Node, asked, bound_socket, faults_of_lines, file_of, free_ports, table_of, wait_for, wait_until)
@@ -171,7 +172,7 @@ CUT = "lg: write\nstandard output took nothing for 2 s\n"
 def fault_of_a_stuck_reader(program, option):
     """What is wrong with how a node ends that is told to by an option, while its pipe is full."""
     [port] = free_ports(1)
-    begun = time.monotonic()
+    begun = moment()
     life = ["--for-ms", str(1000 * LIFE_SECONDS)] if option == "--for-ms" else [option]
     node = Node(program, file_of("b", port, keys="interval_ms = 60000\n"), "--follow", *life, has_input=True)
     fcntl.fcntl(node.process.stdout, fcntl.F_SETPIPE_SZ, SMALL_PIPE)
@@ -187,9 +188,9 @@ def fault_of_a_stuck_reader(program, option):
     told_at = begun + LIFE_SECONDS
     if option != "--for-ms":
         node.close_input()
-        told_at = time.monotonic()
+        told_at = moment()
     wait_until(lambda: not node.is_running(), 4 * LIFE_SECONDS)
-    took = time.monotonic() - told_at
+    took = moment() - told_at
     status, output, errors = node.end(0)
     if status != 1 or not took < GRACE + BEHIND or not output.endswith("\n") or not errors.endswith(CUT):
         return f"{option}: after {took:.1f} s it ended with {status}, {output[-200:]!r} and {errors!r}"
