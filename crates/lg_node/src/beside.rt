@@ -114,12 +114,7 @@ where
     ensures watched { V.gives watching result.watched }
     ensures served { X.gives serving result.served }
 {
-    let Ticks {
-        side,
-        dice,
-        plan,
-        ..
-    } = ticks;
+    let (side, dice, plan) = (ticks.side, ticks.dice, ticks.plan);
     thread::scope(
         thread::scope_env(),
         shared.rt,
