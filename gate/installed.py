@@ -10,7 +10,7 @@ from functools import cached_property
 
 TOP = os.path.dirname(os.path.dirname(os.path.realpath(__file__)))
 sys.path[:0] = [f"{TOP}/cases"]
-from checks import needed  # noqa: E402 (its folder had to be named first)
+from checks import Skipped, needed  # noqa: E402 (its folder had to be named first)
 from running import end_with_parent, free_ports, free_status_ports, wait_until  # noqa: E402
 
 NAME = "lifeguard-agent"
@@ -30,6 +30,12 @@ def called(*words, **how):
 def text_of(path):
     with open(path, encoding="utf-8") as it:
         return it.read()
+
+
+def has_commit():
+    """Whether git tells of which commit this text is. An archive has none, and git refuses a folder of another user."""
+    words = ("git", "rev-parse", "--verify", "--quiet", "HEAD")
+    return subprocess.run(words, cwd=TOP, capture_output=True, check=False).returncode == 0
 
 
 def put(path, text):
@@ -53,6 +59,8 @@ class Room:
         """Builds into a folder of this name. Gives its path. What an end of this script interrupts lies in the room."""
         needed("dpkg-deb")
         needed("git")
+        if not has_commit():
+            raise Skipped("git tells no commit of this text")
         into = f"{self.folder}/{name}"
         called(f"{TOP}/package", *words, "--into", into, umask=umask, env={**os.environ, "TMPDIR": self.folder, **env})
         return into
