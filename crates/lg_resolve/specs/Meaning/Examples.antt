@@ -64,7 +64,9 @@ two_hosts = record { name = codes "db.example"; port = 7946 } ∷ record { name 
 
 told_of_the_first :
     (before after : Reported) → Reports before after (codes "lg: the host db.example of the seeds resolves\n")
-    → TellsEach before after two_hosts ((None ∷ []) ∷ (Some (at 5 ∷ []) ∷ []) ∷ []) (Some (at 6 ∷ []) ∷ Some (at 5 ∷ []) ∷ [])
+    → TellsEach before after two_hosts
+    ((None ∷ []) ∷ (Some (at 5 ∷ []) ∷ []) ∷ [])
+    (Some (at 6 ∷ []) ∷ Some (at 5 ∷ []) ∷ [])
 told_of_the_first before after reports = (after, inl reports, (after, refl, refl))
 
 -- the next round comes soon after a failure, and never later than each minute
