@@ -23,15 +23,18 @@ MOST_REQUESTS = 12
 CONNECTIONS = 50
 METHODS = ["GET", "GET", "GET", "GET", "HEAD", "HEAD", "POST", "PUT", "DELETE", "OPTIONS", "PATCH"]
 PATHS = ["/", "//", "/v1", "/v1/", "/v1/members", "/v1/members/", "/v1/members/", "/v1/health", "/v1/changes",
-         "/v1/config", "/v1/config/", "/v1/leave", "/v1/leave/", "/metrics", "/favicon.ico"]
+         "/v1/config", "/v1/config/", "/v1/leave", "/v1/leave/", "/metrics", "/v1/prometheus",
+         "/v1/prometheus/", "/favicon.ico"]
 MEMBERS = ["b", "a", "c", "d", "e", "nobody", "a+b", "%62", "n" * 32, "n" * 33, "b/", ""]
 ALL_QUERIES = ["", "status=alive", "status=suspect", "status=failed", "status=left", "status=dead", "status=",
            "after=0", "after=0&wait_ms=1", "wait_ms=5", "wait_ms=30001", "wait_ms=1&after=0", "after=1&after=1",
            "after=x", "after=", "=", "&", "after=0&", "after=0&wait_ms=1&after=0", "now", "after=0000000000000000",
-           "after=" + "0" * 17, "a=1", "wait_ms=00001"]
+           "after=" + "0" * 17, "a=1", "wait_ms=00001", "port=9100", "port=00080", "port=0",
+           "port=65535", "port=65536", "port=", "port=1&port=1"]
 # For the paths that take a query these are the usual ones.
 QUERIES = {"/v1/members": [it for it in ALL_QUERIES if it.startswith("status")],
-           "/v1/changes": [it for it in ALL_QUERIES if it.startswith(("after", "wait_ms"))]}
+           "/v1/changes": [it for it in ALL_QUERIES if it.startswith(("after", "wait_ms"))],
+           "/v1/prometheus": [it for it in ALL_QUERIES if it.startswith("port")]}
 HOSTS = ["127.0.0.1", "127.0.0.1:8946", "255.255.255.255", "localhost", "LOCALHOST:1", "[::1]", "[fe80::1]:65535"]
 FOREIGN_HOSTS = ["b", "evil.example", "evil.example:80", "localhost.b", "xlocalhost", "1.2.3", "1.2.3.256", "01.2.3.4"]
 FIELDS = ["", "", "", "accept: */*\r\n", "a: b\r\n", "a:\tb \r\n", "x: " + "y" * 500 + "\r\n"]
@@ -132,7 +135,7 @@ class Requests:
     name = "requests"
     wrong_rules = (
         (wire, "MOST_NAME", 31), (web, "SERVED", ("GET", "HEAD", "OPTIONS")), (web, "MOST_WAIT", 4),
-        (web, "OWN_NAME", "evil.example"), (web, "LEAVE", "/v1/leave/"),
+        (web, "OWN_NAME", "evil.example"), (web, "LEAVE", "/v1/leave/"), (web, "TARGETS", "/v1/prometheus/"),
         (web, "MEMBERS_QUERIES", ("", "status=alive", "status=suspect")), (web, "PLAIN", (*web.PLAIN, "/v1/config/")))
 
     def make(self, dice):

@@ -5,7 +5,7 @@ import json
 import re
 from dataclasses import dataclass
 
-from fuzzing.script import LineFault, number
+from fuzzing.script import LineFault, number, port
 from fuzzing.wire import STATUS_WORDS, ip_text, is_name, port_of
 
 MOST_WAIT = 30_000
@@ -14,6 +14,8 @@ ONE_MEMBER = "/v1/members/"
 JSON = "application/json"
 MEDIA = {"/": "text/html; charset=utf-8", "/metrics": "text/plain; version=0.0.4; charset=utf-8"}
 MEMBERS_QUERIES = ("", *(f"status={it}" for it in STATUS_WORDS.values()))
+# This path takes the port of its targets.
+TARGETS = "/v1/prometheus"
 SERVED = ("GET", "HEAD")
 # This path takes POST alone, with a field that no case has.
 LEAVE = "/v1/leave"
@@ -50,6 +52,17 @@ def asks_for_changes(query):
     return True
 
 
+def asks_for_targets(query):
+    """Whether a query of the targets is right: none, or a port."""
+    if not query:
+        return True
+    key, sign, value = query.partition("=")
+    try:
+        return (key, sign) == ("port", "=") and bool(port(value.encode()))
+    except LineFault:
+        return False
+
+
 def is_own(host):
     """Whether a host is an address or the own name, each with or without a port."""
     name = re.sub(":[0-9]+$", "", host)
@@ -76,6 +89,8 @@ def code_of(method, host, target, known):
         return 200 if query in MEMBERS_QUERIES else 400
     if path == "/v1/changes":
         return 200 if asks_for_changes(query) else 400
+    if path == TARGETS:
+        return 200 if asks_for_targets(query) else 400
     return 404 if path not in PLAIN else 400 if query else 200
 
 
@@ -86,10 +101,20 @@ def member_json(record):
             "accuser": record.accuser.decode() if record.accuser else None}
 
 
+def group_json(member, number):
+    """A member that is alive as Prometheus takes it: a target at the port of this number."""
+    host = f"[{member['address']}]" if ":" in member["address"] else member["address"]
+    labels = {"__meta_lg_name": member["name"], "__meta_lg_address": f"{host}:{member['port']}"}
+    return {"targets": [f"{host}:{number}"], "labels": labels}
+
+
 def body_of(target, view):
     """What the JSON of an answer about the members has to say, but for what is measured. Of other targets nothing."""
     path, _, query = target.partition("?")
     members = [member_json(record) for record in view]
+    if path == TARGETS and query:
+        asked = int(query.removeprefix("port="))
+        return [group_json(it, asked) for it in members if it["status"] == "alive"]
     if path == "/v1/members":
         status = query.removeprefix("status=")
         return {"name": "b", "members": [it for it in members if not query or it["status"] == status]}
@@ -144,6 +169,7 @@ def fault_of(method, host, target, answer, view):
     value = json.loads(answer.body)
     wanted = body_of(target, view) if code == 200 else {}
     is_error = list(value) == ["error"]
-    if is_error != (code != 200) or any(value.get(key) != wanted[key] for key in wanted):
+    differs = value != wanted if isinstance(wanted, list) else any(value.get(it) != wanted[it] for it in wanted)
+    if is_error != (code != 200) or differs:
         return f"{method} {target}: got {answer.body[:300]}, wanted {wanted or code}"
     return None

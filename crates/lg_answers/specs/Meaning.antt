@@ -15,3 +15,4 @@ pub mod Places
 pub mod Queries
 pub mod Reasons
 pub mod Routes
+pub mod Targets

@@ -18,6 +18,7 @@ use crate::page::page_body;
 use crate::reason::RouteFault;
 use crate::route::{Route, route_of};
 use crate::snapshot::{ShownConfig, Snapshot};
+use crate::targets::targets_body;
 use lg_changes::Changes;
 use lg_http::{HttpAnswer, HttpStatus, Kind};
 use lg_rules::{Name, Record};
@@ -123,6 +124,10 @@ fn route_answer(
         }
         Route::Config => Ok(found(Kind::Json, config_body(alloc, setup)?)),
         Route::Metrics => Ok(found(Kind::Metrics, metrics_body(alloc, snapshot)?)),
+        Route::Targets(port) => {
+            let body = targets_body(alloc, snapshot, setup.status, port)?;
+            Ok(found(Kind::Json, body))
+        }
     }
 }
 

@@ -21,6 +21,7 @@ mod query;
 mod reason;
 mod route;
 mod snapshot;
+mod targets;
 
 pub use answer::answer_to;
 pub use leave::{LEAVE_FIELD, LeaveAsked, LeaveReply, is_leave, leave_reply};

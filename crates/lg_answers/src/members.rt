@@ -167,6 +167,22 @@ fn put_members(members: &[Record], text: &mut String) -> Result<(), AllocError>
     }
 }
 
+/// The members of one status, in the order that they have.
+pub(crate) fn members_of(
+    alloc: Global,
+    kind: StatusKind,
+    members: &[Record],
+) -> Result<Vec<Record>, AllocError>
+    ensures { IfOk result (λ found. found.items ≡ members_asked (Some kind) members.now) }
+{
+    let found = members
+        .iter()
+        .copied()
+        .filter(|member| kind.is_of(&member.status))
+        .collect(alloc)?;
+    Ok(found)
+}
+
 /// Appends the members of one status, with commas between them.
 fn put_members_of(
     alloc: Global,
@@ -177,11 +193,7 @@ fn put_members_of(
     ensures { OnOk result (string_bytes text.new ≡ string_bytes text.old
         ++ comma_separated member_json (members_asked (Some kind) members.now)) }
 {
-    let found: Vec<Record> = members
-        .iter()
-        .copied()
-        .filter(|member| kind.is_of(&member.status))
-        .collect(alloc)?;
+    let found = members_of(alloc, kind, members)?;
     put_members(&found, text)
 }
 

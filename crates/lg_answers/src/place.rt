@@ -24,18 +24,21 @@ pub(crate) enum Place {
     Config,
     /// `/metrics`.
     Metrics,
+    /// `/v1/prometheus`.
+    Targets,
     /// `/v1/leave`.
     Leave,
 }
 
 /// All of them.
-const PLACES: [Place; 7] = [
+const PLACES: [Place; 8] = [
     Place::Page,
     Place::Members,
     Place::Health,
     Place::Changes,
     Place::Config,
     Place::Metrics,
+    Place::Targets,
     Place::Leave,
 ];
 
@@ -51,6 +54,7 @@ impl Place {
             Place::Changes => "/v1/changes",
             Place::Config => "/v1/config",
             Place::Metrics => "/metrics",
+            Place::Targets => "/v1/prometheus",
             Place::Leave => "/v1/leave",
         }
     }

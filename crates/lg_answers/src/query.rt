@@ -5,10 +5,10 @@
 ghost use Rattle.std.specs.Prelude.{◌≡◌};
 ghost use Rattle.std.specs.Option.{option_map};
 ghost use Rattle.lg_answers.specs.Meaning.Queries.{changes_asked, first_of_two, pair_said, pairs_said, two_pairs_said};
-ghost use Rattle.lg_answers.specs.Meaning.Queries.{value_said};
+ghost use Rattle.lg_answers.specs.Meaning.Queries.{port_asked, value_said};
 
 use lg_http::Wait;
-use lg_text::{cut_at, number_in, number_within};
+use lg_text::{cut_at, number_in, number_within, port_in};
 
 /// The longest wait for a change, in milliseconds: 30,000 (this project's choice).
 pub const MAX_WAIT_MS: u64 = 30_000;
@@ -105,4 +105,17 @@ pub(crate) fn changes_asked(query: &[u8]) -> Option<Wait>
         after: said.after.unwrap_or(0),
         wait_ms: said.wait_ms.unwrap_or(0),
     })
+}
+
+/// The port that a query asks for: `port=P`, P a number of 1 to 65535. None if the query is anything else.
+#[tactic(auto, unfolding(crate::specs::Meaning::Queries::port_asked))]
+pub(crate) fn port_asked(query: &[u8]) -> Option<u16>
+    ensures { result ≡ port_asked query.now }
+{
+    let (key, value) = cut_at(query, b'=');
+    if key == "port".as_bytes() {
+        port_in(value?)
+    } else {
+        None
+    }
 }

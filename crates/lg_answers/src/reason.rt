@@ -29,6 +29,9 @@ pub enum RouteFault {
     /// The query of `/v1/changes` isn't made of `after=V` and `wait_ms=W`, each at most once.
     #[error("the query takes after=V and wait_ms=W, each at most once, with V of 1 to 16 digits and W 0 to 30000")]
     BadChanges,
+    /// The query of `/v1/prometheus` isn't `port=P`.
+    #[error("the query has to be port=P, with P of 1 to 65535")]
+    BadPort,
 }
 
 impl RouteFault {
@@ -43,7 +46,8 @@ impl RouteFault {
             RouteFault::NoName
             | RouteFault::NoQuery
             | RouteFault::BadStatus
-            | RouteFault::BadChanges => HttpStatus::BadRequest,
+            | RouteFault::BadChanges
+            | RouteFault::BadPort => HttpStatus::BadRequest,
         }
     }
 
@@ -62,6 +66,7 @@ impl RouteFault {
             RouteFault::BadChanges => {
                 "the query takes after=V and wait_ms=W, each at most once, with V of 1 to 16 digits and W 0 to 30000"
             }
+            RouteFault::BadPort => "the query has to be port=P, with P of 1 to 65535",
         }
     }
 }

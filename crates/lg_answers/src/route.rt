@@ -6,10 +6,10 @@ ghost use Rattle.std.specs.Prelude.{◌≡◌};
 ghost use Rattle.std.specs.Option.{option_map};
 ghost use Rattle.lg_answers.specs.Meaning.Routes.{changes_route, has_kind_query, is_kind_of, kind_query, member_route};
 ghost use Rattle.lg_answers.specs.Meaning.Routes.{members_route, path_route, place_route, plain_route, route_of};
-ghost use Rattle.lg_answers.specs.Meaning.Routes.{wait_of};
+ghost use Rattle.lg_answers.specs.Meaning.Routes.{targets_route, wait_of};
 
 use crate::place::{Place, member_name};
-use crate::query::changes_asked;
+use crate::query::{changes_asked, port_asked};
 use crate::reason::RouteFault;
 use lg_http::Wait;
 use lg_rules::{Name, Status};
@@ -52,6 +52,9 @@ pub enum Route {
     Config,
     /// The metrics, `/metrics`.
     Metrics,
+    /// The members that are alive as targets of Prometheus, `/v1/prometheus`: at this port, or at that of the node's own
+    /// status server.
+    Targets(Option<u16>),
 }
 
 impl StatusKind {
@@ -135,6 +138,19 @@ fn changes_route(query: &[u8]) -> Result<Route, RouteFault>
     }
 }
 
+/// The route of the targets, at the port that a query asks for.
+fn targets_route(query: &[u8]) -> Result<Route, RouteFault>
+    ensures { result ≡ targets_route query.now }
+{
+    if query.is_empty() {
+        return Ok(Route::Targets(None));
+    }
+    match port_asked(query) {
+        Some(port) => Ok(Route::Targets(Some(port))),
+        None => Err(RouteFault::BadPort),
+    }
+}
+
 /// The route of a place with a query.
 fn place_route(place: Place, query: &[u8]) -> Result<Route, RouteFault>
     ensures { result ≡ place_route place query.now }
@@ -146,6 +162,7 @@ fn place_route(place: Place, query: &[u8]) -> Result<Route, RouteFault>
         Place::Changes => changes_route(query),
         Place::Config => plain_route(Route::Config, query),
         Place::Metrics => plain_route(Route::Metrics, query),
+        Place::Targets => targets_route(query),
         Place::Leave => Err(RouteFault::PostOnly),
     }
 }
@@ -172,6 +189,7 @@ fn path_route(path: &[u8], query: &[u8]) -> Result<Route, RouteFault>
 /// | `/v1/members` | none, or `status=alive`, `status=suspect`, `status=failed` or `status=left` |
 /// | `/v1/members/NAME` | none; NAME is a name of 1 to 32 bytes of `A-Z a-z 0-9 . _ -` |
 /// | `/v1/changes` | none, or `after=V` and `wait_ms=W`, each at most once and in any order, with an `&` between them |
+/// | `/v1/prometheus` | none, or `port=P`, P a number of 1 to 65535 |
 ///
 /// No byte of these needs percent-encoding, and none is decoded: a `%` stands in no path, name or number. Paths and
 /// names differ if their cases do. The error is [`RouteFault::PostOnly`] if the path is `/v1/leave`, which takes POST

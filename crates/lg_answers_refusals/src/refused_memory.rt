@@ -140,6 +140,7 @@ const ROWS: &[Row] = &[
     (true, "/v1/changes", Some("after=7")),
     (false, "/v1/config", None),
     (true, "/v1/config", None),
+    (false, "/v1/prometheus", None),
     (false, "/metrics", None),
     (true, "/metrics", None),
     (false, "/", None),

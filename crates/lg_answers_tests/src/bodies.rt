@@ -111,6 +111,15 @@ const OUSTED_CONFIG: &str =
     \"pull_ms\":30000,\"stall_ms\":100,\"resolve_ms\":60000,\"group\":null,\"status\":null,\"status_open\":true,\
     \"leave\":false,\"bind\":\"[2001:db8::1]:7102\",\"seeds\":[]}";
 
+const TARGETS: &str = "[{\"targets\":[\"127.0.0.1:8946\"],\
+    \"labels\":{\"__meta_lg_name\":\"b\",\"__meta_lg_address\":\"127.0.0.1:7102\"}}]";
+
+const TARGETS_AT_9100: &str = "[{\"targets\":[\"127.0.0.1:9100\"],\
+    \"labels\":{\"__meta_lg_name\":\"b\",\"__meta_lg_address\":\"127.0.0.1:7102\"}}]";
+
+const TARGETS_OF_MEMBERS: &str = "[{\"targets\":[\"127.0.0.1:7102\"],\
+    \"labels\":{\"__meta_lg_name\":\"b\",\"__meta_lg_address\":\"127.0.0.1:7102\"}}]";
+
 const METRICS: &[&str] = &[
     "# HELP lg_members Members known, this member included, by status.",
     "# TYPE lg_members gauge",
@@ -204,6 +213,21 @@ pub const ROWS: &[Row] = &[
     (Busy, "/v1/changes?after=7", 200, JSON, Whole(THREE)),
     (Usual, "/v1/config", 200, JSON, Whole(CONFIG)),
     (Ousted, "/v1/config", 200, JSON, Whole(OUSTED_CONFIG)),
+    (Usual, "/v1/prometheus", 200, JSON, Whole(TARGETS)),
+    (
+        Usual,
+        "/v1/prometheus?port=9100",
+        200,
+        JSON,
+        Whole(TARGETS_AT_9100),
+    ),
+    (
+        Ousted,
+        "/v1/prometheus",
+        200,
+        JSON,
+        Whole(TARGETS_OF_MEMBERS),
+    ),
     (Usual, "/metrics", 200, TEXT, Lines(METRICS)),
     (Ousted, "/metrics", 200, TEXT, Lines(OUSTED_METRICS)),
     (Usual, "/", 200, HTML, Lines(PAGE)),

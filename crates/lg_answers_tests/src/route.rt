@@ -1,7 +1,7 @@
 //! Which route each target has, and why others have none.
 use crate::target::parts_of;
-use Route::{Changes, Config, Health, Member, Members, Metrics, Page};
-use RouteFault::{BadChanges, BadStatus, NoName, NoQuery, PostOnly, UnknownPath};
+use Route::{Changes, Config, Health, Member, Members, Metrics, Page, Targets};
+use RouteFault::{BadChanges, BadPort, BadStatus, NoName, NoQuery, PostOnly, UnknownPath};
 use lg_answers::StatusKind::{Alive, Failed, Left, Suspect};
 use lg_answers::{MAX_WAIT_MS, Route, RouteFault, route_of, wait_of};
 use lg_http::Wait;
@@ -48,6 +48,11 @@ fn routes(rt: HostRuntime) {
         ),
         ("/v1/config", Config),
         ("/metrics", Metrics),
+        ("/v1/prometheus", Targets(None)),
+        ("/v1/prometheus?", Targets(None)),
+        ("/v1/prometheus?port=9100", Targets(Some(9100))),
+        ("/v1/prometheus?port=1", Targets(Some(1))),
+        ("/v1/prometheus?port=65535", Targets(Some(65_535))),
     ];
     for (target, route) in rows {
         let (path, query) = parts_of(target);
@@ -90,6 +95,14 @@ fn faults(rt: HostRuntime) {
         ("/v1/changes?after=1&after=2", BadChanges),
         ("/v1/changes?since=1", BadChanges),
         ("/v1/changes?after=1&wait_ms=2&x=3", BadChanges),
+        ("/v1/prometheus/", UnknownPath),
+        ("/v1/prometheus?port=0", BadPort),
+        ("/v1/prometheus?port=65536", BadPort),
+        ("/v1/prometheus?port=", BadPort),
+        ("/v1/prometheus?port", BadPort),
+        ("/v1/prometheus?Port=9100", BadPort),
+        ("/v1/prometheus?port=9100&port=9100", BadPort),
+        ("/v1/prometheus?status=alive", BadPort),
     ];
     for (target, fault) in rows {
         let (path, query) = parts_of(target);
@@ -140,6 +153,11 @@ fn words(rt: HostRuntime) {
             BadChanges,
             400,
             "the query takes after=V and wait_ms=W, each at most once, with V of 1 to 16 digits and W 0 to 30000",
+        ),
+        (
+            BadPort,
+            400,
+            "the query has to be port=P, with P of 1 to 65535",
         ),
     ];
     for (fault, code, words) in rows {

@@ -13,6 +13,7 @@ use Rattle.lg_changes.specs.declared.change.Change.{Change}
 use Rattle.lg_answers.specs.declared.reason.RouteFault.{RouteFault}
 use Rattle.lg_answers.specs.declared.route.Route.{Route}
 use Rattle.lg_answers.specs.declared.route.Route.TheVariants.{Page, Members, Member, Health, Changes, Config, Metrics}
+use Rattle.lg_answers.specs.declared.route.Route.TheVariants.{Targets}
 use Rattle.lg_answers.specs.declared.snapshot.ShownConfig.{ShownConfig}
 use Rattle.lg_answers.specs.declared.snapshot.Snapshot.{Snapshot}
 use Rattle.lg_answers.specs.Meaning.Bodies.{config_body, error_body, health_body}
@@ -22,6 +23,7 @@ use Rattle.lg_answers.specs.Meaning.Metrics.{metrics_body}
 use Rattle.lg_answers.specs.Meaning.Page.{page_body}
 use Rattle.lg_answers.specs.Meaning.Reasons.{fault_status, reason_text}
 use Rattle.lg_answers.specs.Meaning.Routes.{route_of}
+use Rattle.lg_answers.specs.Meaning.Targets.{targets_body}
 
 -- an answer, with its body as bytes
 pub record AnswerValue : Type 0 where
@@ -66,6 +68,7 @@ route_answer s all setup Health = health_answer s
 route_answer s all setup (Changes wait) = found_answer Json (changes_body s wait.after all)
 route_answer s all setup Config = found_answer Json (config_body setup)
 route_answer s all setup Metrics = found_answer kind.Metrics (metrics_body s)
+route_answer s all setup (Targets port) = found_answer Json (targets_body s setup.status port)
 
 -- the answer to a request for a path and a query
 abbrev pub routed_answer : Snapshot → List Change → ShownConfig → Result Route RouteFault → AnswerValue

@@ -17,12 +17,15 @@ use Rattle.lg_answers.specs.Meaning.Members.{members_asked, members_front_of, mo
 use Rattle.lg_answers.specs.Meaning.Metrics.{drops_sample, kind_line, members_lines, metric_head, seconds_text}
 use Rattle.lg_answers.specs.Meaning.Metrics.{status_line}
 use Rattle.lg_answers.specs.Meaning.Page.{live_words, member_row, name_cells, row_front, status_cells, summary_text}
+use Rattle.lg_answers.specs.Meaning.Targets.{address_label, name_label, target_field, target_json}
+use Rattle.lg_answers.specs.Meaning.Targets.{target_port}
 
 -- what the rows have to unfold
 unfoldable by_writing : ⊤
 unfolding digits address_fields bind_field drops_sample host_fields kind_line leaving_field live_words member_body
     member_fields member_json member_row members_front_of members_lines metric_head moment_front name_cells open_field
     row_front seed_json status_cells status_field status_line summary_text
+    address_label name_label target_field target_json
 by_writing = tt
 
 abbrev at : ℕ → Addr
@@ -98,6 +101,21 @@ only_d = refl
 only_a : member_body 41 a ≡ codes "{\"version\":41," ++ a_json
 unfolding by_writing
 only_a = refl
+
+-- ---- targets
+
+-- b answers at the port of its status server, and d, an IPv6 address, at one that is asked for
+a_target : target_json (target_port None (Some (at 8946))) b
+    ≡ codes "{\"targets\":[\"127.0.0.1:8946\"],\"labels\":{\"__meta_lg_name\":\"b\","
+    ++ codes "\"__meta_lg_address\":\"127.0.0.1:7102\"}}"
+unfolding by_writing
+a_target = refl
+
+a_target_at_a_port : target_json (target_port (Some 9100) (Some (at 8946))) d
+    ≡ codes "{\"targets\":[\"[2001:db8::1]:9100\"],\"labels\":{\"__meta_lg_name\":\"d\","
+    ++ codes "\"__meta_lg_address\":\"[2001:db8::1]:7104\"}}"
+unfolding by_writing on_addresses
+a_target_at_a_port = refl
 
 -- ---- faults, the health, the configuration
 

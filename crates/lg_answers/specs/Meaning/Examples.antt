@@ -4,16 +4,18 @@ use Rattle.lg_http.specs.declared.site.Wait.{Wait}
 use Rattle.lg_text.specs.Meaning.Cutting.{before, behind}
 use Rattle.lg_answers.specs.declared.reason.RouteFault.{RouteFault}
 use Rattle.lg_answers.specs.declared.reason.RouteFault.TheVariants.{UnknownPath, NoName, NoQuery, BadStatus, BadChanges}
-use Rattle.lg_answers.specs.declared.reason.RouteFault.TheVariants.{PostOnly}
+use Rattle.lg_answers.specs.declared.reason.RouteFault.TheVariants.{BadPort, PostOnly}
 use Rattle.lg_answers.specs.declared.route.Route.{Route}
 use Rattle.lg_answers.specs.declared.route.Route.TheVariants.{Page, Members, Member, Health, Changes, Config, Metrics}
+use Rattle.lg_answers.specs.declared.route.Route.TheVariants.{Targets}
 use Rattle.lg_answers.specs.declared.route.StatusKind.TheVariants.{Suspect}
-use Rattle.lg_answers.specs.Meaning.Queries.{changes_asked, pair_said, two_pairs_said, value_said}
+use Rattle.lg_answers.specs.Meaning.Queries.{changes_asked, pair_said, port_asked, two_pairs_said}
+use Rattle.lg_answers.specs.Meaning.Queries.{value_said}
 use Rattle.lg_answers.specs.Meaning.Routes.{route_of, wait_of}
 
 -- what the rows have to unfold
 unfoldable by_routing : ⊤
-unfolding before behind changes_asked pair_said route_of two_pairs_said value_said
+unfolding before behind changes_asked pair_said port_asked route_of two_pairs_said value_said
 by_routing = tt
 
 abbrev is_route : List ℕ → Option (List ℕ) → Route → Type 0
@@ -59,6 +61,12 @@ the_config : is_route (codes "/v1/config") None Config
 unfolding by_routing
 the_config = refl
 
+the_targets :
+    is_route (codes "/v1/prometheus") None (Targets None)
+    × is_route (codes "/v1/prometheus") (Some (codes "port=9100")) (Targets (Some 9100))
+unfolding by_routing
+the_targets = (refl, refl)
+
 all_changes_asked : is_route (codes "/v1/changes") None (asking 0 0)
 unfolding by_routing
 all_changes_asked = refl
@@ -102,6 +110,16 @@ bad_statuses :
     × is_no_route (codes "/v1/members") (Some (codes "alive")) BadStatus
 unfolding by_routing
 bad_statuses = (refl, refl)
+
+-- no port, no number, another key, and a second pair
+bad_ports :
+    is_no_route (codes "/v1/prometheus") (Some (codes "port=0")) BadPort
+    × is_no_route (codes "/v1/prometheus") (Some (codes "port=65536")) BadPort
+    × is_no_route (codes "/v1/prometheus") (Some (codes "port")) BadPort
+    × is_no_route (codes "/v1/prometheus") (Some (codes "ports=9100")) BadPort
+    × is_no_route (codes "/v1/prometheus") (Some (codes "port=9100&port=9100")) BadPort
+unfolding by_routing
+bad_ports = (refl, refl, refl, refl, refl)
 
 -- a wait beyond the limit, a key twice, an unknown key, a sign, a third pair and an empty one
 bad_changes :

@@ -3,7 +3,8 @@ use Rattle.std.specs.Prelude.{ℕ, Bool, List, [], ◌∷◌, take, drop, length
 use Rattle.std.specs.Prelude.{Option, Some, None, find, if◌then◌else◌}
 use Rattle.std.specs.Str.{bytes_eq}
 use Rattle.lg_answers.specs.declared.place.Place.{Place}
-use Rattle.lg_answers.specs.declared.place.Place.TheVariants.{Page, Members, Health, Changes, Config, Metrics, Leave}
+use Rattle.lg_answers.specs.declared.place.Place.TheVariants.{Page, Members, Health, Changes, Config, Metrics, Targets}
+use Rattle.lg_answers.specs.declared.place.Place.TheVariants.{Leave}
 
 -- the paths but for those of single members
 abbrev pub place_path : Place → List ℕ
@@ -13,10 +14,11 @@ place_path Health = codes "/v1/health"
 place_path Changes = codes "/v1/changes"
 place_path Config = codes "/v1/config"
 place_path Metrics = codes "/metrics"
+place_path Targets = codes "/v1/prometheus"
 place_path Leave = codes "/v1/leave"
 
 abbrev pub places : List Place
-places = Page ∷ Members ∷ Health ∷ Changes ∷ Config ∷ Metrics ∷ Leave ∷ []
+places = Page ∷ Members ∷ Health ∷ Changes ∷ Config ∷ Metrics ∷ Targets ∷ Leave ∷ []
 
 -- the place with a path, if there is one
 abbrev pub has_path : List ℕ → Place → Bool

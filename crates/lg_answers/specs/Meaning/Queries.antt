@@ -3,7 +3,7 @@ use Rattle.std.specs.Prelude.{ℕ, ◌==◌, List, length, codes, unwrap_or}
 use Rattle.std.specs.Prelude.{Option, Some, None, if◌then◌else◌}
 use Rattle.std.specs.Str.{bytes_eq}
 use Rattle.lg_http.specs.declared.site.Wait.{Wait}
-use Rattle.lg_text.specs.Meaning.Numbers.{number_of, number_within}
+use Rattle.lg_text.specs.Meaning.Numbers.{number_of, number_within, port_of}
 use Rattle.lg_answers.specs.declared.query.Said.{Said}
 use Rattle.lg_text.specs.Meaning.Steps.{◌>>=◌}
 use Rattle.lg_text.specs.Meaning.Cutting.{before, behind}
@@ -72,3 +72,13 @@ unfoldable pub changes_asked : List ℕ → Option Wait
 changes_asked query = do
   said ← pairs_said query
   Some (changes_said said)
+
+-- the port that a query asks for: that of a pair whose key is `port`
+abbrev pub port_in : Option (List ℕ) → Option ℕ
+port_in value = do
+  text ← value
+  port_of text
+
+unfoldable pub port_asked : List ℕ → Option ℕ
+port_asked query =
+    if bytes_eq (before equals_sign query) (codes "port") then port_in (behind equals_sign query) else None

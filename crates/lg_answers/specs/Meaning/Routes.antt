@@ -11,13 +11,14 @@ use Rattle.lg_answers.specs.declared.place.Place.{Place}
 use Rattle.lg_answers.specs.declared.place.Place.TheVariants as variants
 use Rattle.lg_answers.specs.declared.reason.RouteFault.{RouteFault}
 use Rattle.lg_answers.specs.declared.reason.RouteFault.TheVariants.{UnknownPath, NoName, NoQuery, BadStatus, BadChanges}
-use Rattle.lg_answers.specs.declared.reason.RouteFault.TheVariants.{PostOnly}
+use Rattle.lg_answers.specs.declared.reason.RouteFault.TheVariants.{BadPort, PostOnly}
 use Rattle.lg_answers.specs.declared.route.Route.{Route}
 use Rattle.lg_answers.specs.declared.route.Route.TheVariants.{Page, Members, Member, Health, Changes, Config, Metrics}
+use Rattle.lg_answers.specs.declared.route.Route.TheVariants.{Targets}
 use Rattle.lg_answers.specs.declared.route.StatusKind.{StatusKind}
 use Rattle.lg_answers.specs.declared.route.StatusKind.TheVariants.{Alive, Suspect, Failed, Left}
 use Rattle.lg_answers.specs.Meaning.Places.{member_name, place_at}
-use Rattle.lg_answers.specs.Meaning.Queries.{changes_asked}
+use Rattle.lg_answers.specs.Meaning.Queries.{changes_asked, port_asked}
 
 -- the statuses without their accusers, and the queries that ask for members of one
 abbrev pub status_kinds : List StatusKind
@@ -80,6 +81,14 @@ asked_route (Some wait) = Ok (Changes wait)
 abbrev pub changes_route : List ℕ → Result Route RouteFault
 changes_route query = asked_route (changes_asked query)
 
+-- the route of the targets: at the port of the node's own status server, or at one that is asked for
+abbrev pub port_route : Option ℕ → Result Route RouteFault
+port_route None = Err BadPort
+port_route (Some port) = Ok (Targets (Some port))
+
+abbrev pub targets_route : List ℕ → Result Route RouteFault
+targets_route query = if length query == 0 then Ok (Targets None) else port_route (port_asked query)
+
 -- the route of a place with a query; one takes POST alone, whatever the query
 abbrev pub place_route : Place → List ℕ → Result Route RouteFault
 place_route variants.Page query = plain_route Page query
@@ -88,6 +97,7 @@ place_route variants.Health query = plain_route Health query
 place_route variants.Changes query = changes_route query
 place_route variants.Config query = plain_route Config query
 place_route variants.Metrics query = plain_route Metrics query
+place_route variants.Targets query = targets_route query
 place_route variants.Leave query = Err PostOnly
 
 -- the route of a path with a query
