@@ -4,6 +4,7 @@ import http.client
 import os
 import pathlib
 import re
+import shutil
 import subprocess
 import time
 from contextlib import suppress
@@ -192,3 +193,31 @@ def shell_scripts_please_shellcheck(_):
     scripts = [it for it, text in texts.items() if re.match(rb"#!.*\b(sh|bash)\n", text)]
     ran = subprocess.run([tool, "--norc", *scripts], capture_output=True, text=True, check=False)
     return f"{ran.stdout}{ran.stderr}" if ran.returncode or not scripts else None
+
+
+# The units of others on which those of the page stand.
+STUBS = ["sysinit.target", "basic.target", "shutdown.target", "multi-user.target", "lg.service", "nginx.service"]
+STUB = "[Unit]\nDescription=It stands for another\n[Service]\nExecStart=/usr/local/lib/lg/agent.py\n"
+
+
+def units_of_the_page_please_systemd(_):
+    """systemd-analyze finds nothing wrong with the units that the page of the recipes shows, and what they call is
+    there."""
+    analyze = needed("systemd-analyze")
+    page = (RECIPES / "README.md").read_text(encoding="utf-8")
+    units = re.findall(r"```ini\n# /etc/systemd/system/(\S+)\n(.*?)```\n", page, re.DOTALL)
+    with own_folder() as folder:
+        root = pathlib.Path(f"{folder}/root")
+        scripts, others = root / "usr/local/lib/lg", root / "usr/lib/systemd/system"
+        for it in (scripts, others):
+            it.mkdir(parents=True)
+        for it in [*RECIPES.glob("*/*.py"), ON_CHANGE]:
+            shutil.copy(it, scripts)
+        for name in STUBS:
+            (others / name).write_text(STUB if name.endswith(".service") else STUB.partition("[Service]")[0])
+        for name, text in units:
+            (others / name).write_text(text)
+        words = [analyze, "verify", "--man=no", f"--root={root}", *(name for name, _ in units)]
+        ran = subprocess.run(words, capture_output=True, text=True, timeout=60, check=False)
+    told = f"{ran.stdout}{ran.stderr}"
+    return f"of {len(units)} units it says {told}" if ran.returncode or told or len(units) != 2 else None
