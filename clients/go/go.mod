@@ -1,0 +1,3 @@
+module lifeguard-agent.example/members
+
+go 1.19
