@@ -11,6 +11,8 @@ from host import tried_until
 
 # What the check that this process runs has noted of itself.
 NOTES = []
+# What go is told: it fetches nothing, no setting of the user's counts, and git isn't asked.
+GO = {"GOFLAGS": "-mod=mod -buildvcs=false", "GOPROXY": "off", "GOTOOLCHAIN": "local", "GOENV": "off", "GOWORK": "off"}
 # What a check may come to.
 PASSED, FAILED, SKIPPED = "passed", "failed", "skipped"
 
