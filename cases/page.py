@@ -10,7 +10,7 @@ import time
 from asking import asked_for, by_python
 from browser import NAMES as BROWSERS, Browser
 from changes import Lone
-from checks import NOTES, needed
+from checks import GO, NOTES, needed
 from group import AskedGroup
 from running import PATIENCE, end_with_parent, table_of, wait_until
 
@@ -156,7 +156,7 @@ def fault_beside_a_group(program, words):
 
 def service_in_python_chooses_who_is_alive(program):
     """The service of the examples that is written in Python chooses among the other members that are alive."""
-    return fault_beside_a_group(program, [sys.executable, f"{SERVICES}/choose.py"])
+    return fault_beside_a_group(program, [sys.executable, "-B", f"{SERVICES}/choose.py"])
 
 
 def service_in_go_chooses_who_is_alive(program):
@@ -164,5 +164,6 @@ def service_in_go_chooses_who_is_alive(program):
     go = needed("go")
     with tempfile.TemporaryDirectory(prefix="lg-services-") as folder:
         made = f"{folder}/choose"
-        subprocess.run([go, "build", "-o", made, f"{SERVICES}/choose.go"], check=True)
+        # Its folder has the file that says where the package of clients/go lies.
+        subprocess.run([go, "build", "-o", made, "."], cwd=SERVICES, env={**os.environ, **GO}, check=True)
         return fault_beside_a_group(program, [made])

@@ -1,40 +1,53 @@
 // A service that asks the node beside it, before each call, whom to use: choose.py in Go, with the same input and
-// output. Run it by `go run examples/services/choose.go [PORT]`.
+// output. Run it in this folder by `go run . [PORT]`: go.mod says where the package of clients/go lies.
+//
+// It asks before each call, so what the node knows counts at once; an answer takes less than a millisecond. A service
+// with thousands of calls a second follows the node by Watch instead, in a goroutine of its own, and chooses from the
+// table that this goroutine keeps.
 package main
 
 import (
 	"bufio"
-	"encoding/json"
+	"context"
 	"fmt"
 	"math/rand"
-	"net/http"
 	"os"
 	"time"
+
+	"lifeguard-agent.example/members"
 )
+
+// othersAlive gives the members of a table that are alive, but for the node itself.
+func othersAlive(table members.Table) []members.Member {
+	var others []members.Member
+	for _, it := range table.Members {
+		if it.Status == members.Alive && it.Name != table.Name {
+			others = append(others, it)
+		}
+	}
+	return others
+}
 
 func main() {
 	rand.Seed(time.Now().UnixNano())
-	url := "http://127.0.0.1:" + append(os.Args, "8946")[1] + "/v1/members?status=alive"
-	client := http.Client{Timeout: 200 * time.Millisecond, Transport: &http.Transport{}}
-	var known struct {
-		Name    string
-		Members []struct{ Name, Address string }
+	client, err := members.New("127.0.0.1:" + append(os.Args, "8946")[1])
+	if err != nil {
+		fmt.Fprintln(os.Stderr, err)
+		os.Exit(2)
 	}
+	client.Timeout = 200 * time.Millisecond
+	var others []members.Member
 	for calls := bufio.NewScanner(os.Stdin); calls.Scan(); {
-		answer, err := client.Get(url)
-		if err == nil {
-			err = json.NewDecoder(answer.Body).Decode(&known)
-			answer.Body.Close()
-		}
-		if err != nil { // What was known before stays: a better guess than nobody.
+		if table, err := client.Table(context.Background()); err == nil {
+			others = othersAlive(table)
+		} else { // What was known before stays: a better guess than nobody.
 			fmt.Fprintf(os.Stderr, "the node doesn't answer (%v): the last answer is used\n", err)
 		}
-		chosen := "nobody at nowhere"
-		for _, place := range rand.Perm(len(known.Members)) {
-			if it := known.Members[place]; it.Name != known.Name {
-				chosen = it.Name + " at " + it.Address
-			}
+		if len(others) == 0 {
+			fmt.Println("nobody at nowhere")
+			continue
 		}
-		fmt.Println(chosen)
+		chosen := others[rand.Intn(len(others))]
+		fmt.Println(chosen.Name, "at", chosen.Address)
 	}
 }

@@ -5,33 +5,36 @@
 
 PORT is that of the node's status server, 8946 if none is given. Each line of the input stands for a call. For each a
 line says whom the service uses: one of the other members that are alive, at random.
+
+It asks before each call, so what the node knows counts at once; an answer takes less than a millisecond. A service with
+thousands of calls a second follows the node by `lg_members.watch` instead, in a thread of its own, and chooses from the
+table that this thread keeps: see README of clients/python.
 """
 
-import http.client
-import json
+import pathlib
 import random
 import sys
 
-PORT = int(sys.argv[1]) if len(sys.argv) > 1 else 8946
+# A service of your own has a copy of lg_members.py beside it, and needs no such line.
+sys.path.append(str(pathlib.Path(__file__).resolve().parents[2] / "clients" / "python"))
+import lg_members  # noqa: E402 (the line before names its folder)
+
+AT = f"127.0.0.1:{sys.argv[1]}" if len(sys.argv) > 1 else lg_members.AT
 
 
 def alive_now(before):
     """The other members that are alive. If the node doesn't answer in 200 ms, those of its last answer: they are a
     better guess than nobody, and a service that finds one of them dead tries the next."""
-    connection = http.client.HTTPConnection("127.0.0.1", PORT, timeout=0.2)
     try:
-        connection.request("GET", "/v1/members?status=alive")
-        table = json.load(connection.getresponse())
-        return [it for it in table["members"] if it["name"] != table["name"]]
-    except (OSError, http.client.HTTPException, ValueError, KeyError) as fault:
-        print(f"the node doesn't answer ({fault!r}): the last answer is used", file=sys.stderr)
+        table = lg_members.table(AT, status="alive", timeout=0.2)
+        return [it for it in table.members if it.name != table.name]
+    except lg_members.NodeError as fault:
+        print(f"the node doesn't answer ({fault}): the last answer is used", file=sys.stderr)
         return before
-    finally:
-        connection.close()
 
 
 others = []
 for _ in sys.stdin:
     others = alive_now(others)
-    chosen = random.choice(others) if others else {"name": "nobody", "address": "nowhere"}
-    print(chosen["name"], "at", chosen["address"], flush=True)
+    chosen = random.choice(others) if others else None
+    print(f"{chosen.name} at {chosen.address}" if chosen else "nobody at nowhere", flush=True)
