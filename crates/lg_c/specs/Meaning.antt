@@ -1,0 +1,5 @@
+-- What is right: to believe the contracts, read these.
+pub mod Calls
+pub mod Events
+pub mod Replies
+pub mod Statuses

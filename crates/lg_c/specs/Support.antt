@@ -1,0 +1,3 @@
+-- What carries the proofs.
+pub mod Calling
+pub mod Owning
