@@ -93,7 +93,10 @@ fn padded<const N: usize>(bytes: &[u8]) -> [u8; N]
 
 /// The default fills those places of a row of fixed capacity that hold nothing.
 impl Default for LgSend {
-    ghost is_default = { λ _. Unit {0} };
+    ghost use Rattle.std.specs.Prelude.{◌≡◌};
+    ghost use Rattle.lg_c.specs.Meaning.Replies.{no_c_send};
+
+    ghost is_default = { λ s. s ≡ no_c_send };
 
     fn default() -> Self {
         LgSend {

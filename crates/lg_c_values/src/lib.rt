@@ -1,8 +1,8 @@
 //! The values that cross to C: names, addresses, records and configurations as structs of C, and what each of them
 //! tells.
 //!
-//! A struct that C fills may tell nothing, as if a name has a bad byte: then its reading gives nothing. A struct that
-//! is made of a value tells that value. `specs/Meaning` defines both ways.
+//! A struct that C fills may tell nothing, as if a name has a bad byte: then its reading gives nothing. `specs/Meaning`
+//! defines what is read of a struct that C fills, and which struct C is given for a value.
 #![tactic(auto)]
 
 mod address;

@@ -10,7 +10,7 @@ use Rattle.lg_detector.specs.declared.reply.Answer.TheVariants.{Status, Health}
 use Rattle.lg_detector.specs.declared.reply.Outgoing.{Outgoing}
 use Rattle.lg_detector.specs.declared.reply.Reply.{Reply}
 use Rattle.lg_c_values.specs.declared.name.LgName.{LgName}
-use Rattle.lg_c_values.specs.Meaning.Addresses.{c_addr}
+use Rattle.lg_c_values.specs.Meaning.Addresses.{c_addr, no_c_addr}
 use Rattle.lg_c_values.specs.Meaning.Names.{c_name, no_c_name}
 use Rattle.lg_c_values.specs.Meaning.Records.{c_record, no_c_record}
 use Rattle.lg_c.specs.declared.reply.LgAnswer.{LgAnswer}
@@ -31,6 +31,10 @@ abbrev pub c_send : Outgoing → LgSend
 c_send o =
     let bytes = spelling o.packet in
     record { bytes = over bytes (replicate most_send_bytes 0); length = length bytes; to = c_addr o.to }
+
+-- no packet
+abbrev pub no_c_send : LgSend
+no_c_send = record { bytes = replicate most_send_bytes 0; length = 0; to = no_c_addr }
 
 -- a timer, and the relay or the member that it is about
 abbrev pub fired_as : ℕ → ℕ → LgName → LgFired
