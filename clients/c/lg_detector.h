@@ -157,12 +157,12 @@ uint32_t lg_c_next(lg_detector *detector, uint64_t *next);
 
 /* Makes a configuration with the default numbers, no group and no seeds. */
 static inline uint32_t lg_config_defaults(lg_config *config, const lg_name *name, const lg_address *address) {
-    return config && name && address ? lg_c_defaults(config, name, address) : LG_NULL;
+    return config && name && address ? lg_c_defaults(config, name, address) : (uint32_t)LG_NULL;
 }
 
 /* Opens a detector that is closed. */
 static inline uint32_t lg_detector_new(lg_detector *detector, const lg_config *config, uint64_t now, lg_reply *reply) {
-    return detector && config && reply ? lg_c_open(detector, config, now, reply) : LG_NULL;
+    return detector && config && reply ? lg_c_open(detector, config, now, reply) : (uint32_t)LG_NULL;
 }
 
 /* Closes a detector, and frees what it holds. One that is closed stays so. */
@@ -173,46 +173,47 @@ static inline void lg_detector_free(lg_detector *detector) {
 /* A datagram came from an address. */
 static inline uint32_t lg_detector_heard(lg_detector *detector, const uint8_t *bytes, size_t length,
                                          const lg_address *source, uint64_t now, lg_reply *reply) {
-    return detector && bytes && source && reply ? lg_c_heard(detector, bytes, length, source, now, reply) : LG_NULL;
+    if (!detector || !bytes || !source || !reply) return LG_NULL;
+    return lg_c_heard(detector, bytes, length, source, now, reply);
 }
 
 /* Time has passed: at most one timer fires. Call it again while the reply's `next` isn't after `now`. The eight words
  * are random, and fresh each time. */
 static inline uint32_t lg_detector_tick(lg_detector *detector, const uint32_t words[LG_WORDS], uint64_t now,
                                         lg_reply *reply) {
-    return detector && words && reply ? lg_c_tick(detector, words, now, reply) : LG_NULL;
+    return detector && words && reply ? lg_c_tick(detector, words, now, reply) : (uint32_t)LG_NULL;
 }
 
 /* Asks for the record of a name: the reply's `answer`. */
 static inline uint32_t lg_detector_ask(lg_detector *detector, const lg_name *name, uint64_t now, lg_reply *reply) {
-    return detector && name && reply ? lg_c_ask(detector, name, now, reply) : LG_NULL;
+    return detector && name && reply ? lg_c_ask(detector, name, now, reply) : (uint32_t)LG_NULL;
 }
 
 /* Asks for the health score, this member's incarnation and how many members aren't gone: the reply's `answer`. */
 static inline uint32_t lg_detector_health(lg_detector *detector, uint64_t now, lg_reply *reply) {
-    return detector && reply ? lg_c_health(detector, now, reply) : LG_NULL;
+    return detector && reply ? lg_c_health(detector, now, reply) : (uint32_t)LG_NULL;
 }
 
 /* Asks the member at an address for its table. */
 static inline uint32_t lg_detector_pull(lg_detector *detector, const lg_address *peer, uint64_t now, lg_reply *reply) {
-    return detector && peer && reply ? lg_c_pull(detector, peer, now, reply) : LG_NULL;
+    return detector && peer && reply ? lg_c_pull(detector, peer, now, reply) : (uint32_t)LG_NULL;
 }
 
 /* This member leaves its group, for good. */
 static inline uint32_t lg_detector_leave(lg_detector *detector, const uint32_t words[LG_WORDS], uint64_t now,
                                          lg_reply *reply) {
-    return detector && words && reply ? lg_c_leave(detector, words, now, reply) : LG_NULL;
+    return detector && words && reply ? lg_c_leave(detector, words, now, reply) : (uint32_t)LG_NULL;
 }
 
 /* Writes the records of all members, in the order of their names, and how many there are. With LG_NO_ROOM only the
  * count is written. */
 static inline uint32_t lg_detector_members(lg_detector *detector, lg_record *records, size_t room, uint64_t *count) {
-    return detector && records && count ? lg_c_members(detector, records, room, count) : LG_NULL;
+    return detector && records && count ? lg_c_members(detector, records, room, count) : (uint32_t)LG_NULL;
 }
 
 /* Writes the moment at which the next tick is due. */
 static inline uint32_t lg_detector_next(lg_detector *detector, uint64_t *next) {
-    return detector && next ? lg_c_next(detector, next) : LG_NULL;
+    return detector && next ? lg_c_next(detector, next) : (uint32_t)LG_NULL;
 }
 
 #ifdef __cplusplus
