@@ -72,7 +72,7 @@ fn begin(detector: &mut Detector, event: &Event, out: &mut LgReply) -> bool
     true
 }
 
-/// OpensHeld a closed detector by the event that C tells, and writes the reply.
+/// Opens a closed detector by the event that C tells, and writes the reply.
 fn open_closed(alloc: Global, detector: &mut LgDetector, event: &Event, out: &mut LgReply) -> u32
     requires { detector.old.kept.value ≡ None }
     ensures { OpensHeld (Ok event.now) None out.old result detector.new.kept.value out.new }
@@ -90,7 +90,7 @@ fn open_closed(alloc: Global, detector: &mut LgDetector, event: &Event, out: &mu
     OK
 }
 
-/// OpensHeld the detector that C holds by the event that C tells, if it is closed, and writes the reply.
+/// Opens the detector that C holds by the event that C tells, if it is closed, and writes the reply.
 pub(crate) fn open(
     alloc: Global,
     detector: &mut LgDetector,

@@ -31,7 +31,7 @@ pub extern "C" fn lg_c_defaults(config: &mut LgConfig, name: &LgName, address: &
     }
 }
 
-/// OpensHeld a detector that is closed.
+/// Opens a detector that is closed.
 #[unsafe(no_mangle)]
 pub extern "C" fn lg_c_open(
     alloc: Global,
