@@ -151,7 +151,7 @@ func TestASlowNodeIsGivenUp(t *testing.T) {
 		client, begun := f.client(), time.Now()
 		client.Timeout = 300 * time.Millisecond
 		_, err := client.Members(ctx)
-		if took := time.Since(begun); kindOf(err) != ErrNoAnswer || took < client.Timeout || took > 3*time.Second {
+		if took := time.Since(begun); kindOf(err) != ErrNoAnswer || took < client.Timeout || took > 10*time.Second {
 			t.Errorf("%q: got %v after %v", answer, err, took)
 		}
 	}
@@ -181,7 +181,7 @@ func TestTheEndOfAContextEndsAQuestion(t *testing.T) {
 			t.Errorf("got %v", err)
 		}
 	}
-	if took := time.Since(begun); took > 3*time.Second {
+	if took := time.Since(begun); took > 4*time.Second {
 		t.Errorf("it took %v", took)
 	}
 }
@@ -279,5 +279,12 @@ func TestQuestionsAreAskedAtOnce(t *testing.T) {
 		if err := <-done; err != nil {
 			t.Error(err)
 		}
+	}
+}
+
+func TestAFaultIsAnError(t *testing.T) {
+	err := bad("%w", errTooLong)
+	if !errors.Is(err, errTooLong) || !errors.Is(err, ErrBadAnswer) || errors.Is(err, ErrBusy) {
+		t.Errorf("%v", err)
 	}
 }

@@ -299,14 +299,15 @@ func isClosed(link net.Conn) bool {
 	return over
 }
 
-// client is a client of this server. Its waits are short.
+// client is a client of this server, which waits for a short time for changes.
 func (f *fake) client() *Client {
 	f.begins.Do(func() { go f.listen() })
 	client, err := New(f.at)
 	if err != nil {
 		panic(err)
 	}
-	client.Wait = 2 * time.Second
+	// A machine may be busy.
+	client.Wait, client.Timeout = 2*time.Second, 30*time.Second
 	return client
 }
 

@@ -105,6 +105,7 @@ func (n *node) client() *Client {
 	if err != nil {
 		n.t.Fatal(err)
 	}
+	client.Timeout = patience
 	return client
 }
 

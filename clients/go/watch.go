@@ -14,6 +14,9 @@ type pace struct {
 	first, longest, idle time.Duration
 }
 
+// longTry is the time of a try that asked in no haste: behind it a watcher waits as it does at first.
+const longTry = 5 * time.Second
+
 var usualPace = pace{first: 100 * time.Millisecond, longest: 5 * time.Second, idle: 3 * time.Second}
 
 // watcher is where the following of a node stands. One goroutine uses it.
@@ -74,7 +77,7 @@ func (w *watcher) rest(ctx context.Context, err error, took time.Duration) {
 	if ctx.Err() != nil {
 		return
 	}
-	if took > w.pace.longest {
+	if took > longTry {
 		w.wait = w.pace.first
 	}
 	wait := w.wait

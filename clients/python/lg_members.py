@@ -42,6 +42,8 @@ WAIT_MS = 30_000
 MAX_ANSWER = 1_048_576
 # How long a watcher waits behind a try that failed, in seconds: at first, and at most.
 FIRST_WAIT, LONGEST_WAIT = 0.1, 5.0
+# A try that took so many seconds asked in no haste: behind it a watcher waits as it does at first.
+LONG_TRY = 5.0
 # How long a connection of a watcher may have been idle to be used again, in seconds. A node closes it after five.
 IDLE = 3.0
 
@@ -531,7 +533,7 @@ class Watch(Iterator[Change]):
             self._drop()
             if self._closed.is_set():
                 return
-            if time.monotonic() - begun > LONGEST_WAIT:
+            if time.monotonic() - begun > LONG_TRY:
                 self._wait = FIRST_WAIT
             wait = self._wait
             self._wait = min(2 * self._wait, LONGEST_WAIT)

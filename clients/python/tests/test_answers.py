@@ -4,7 +4,7 @@ import time
 import unittest
 
 import lg_members
-from fakes import BUSY, CLOSED, SILENT, Fake, Last, member, reply
+from fakes import BUSY, CLOSED, LONG, SILENT, Fake, Last, member, reply
 from lg_members import BadAnswer, Busy, Member, NoAnswer
 
 MEMBERS = [member("a"), member("b.-_9", "suspect", 2**64 - 1, "A" * 32), member("c", address="2001:db8::1", port=0)]
@@ -26,7 +26,7 @@ class Answers(unittest.TestCase):
         """What a question gives, if these come for it."""
         with Fake() as fake:
             fake.instead.extend(answers)
-            return ask(at=fake.at, **words)
+            return ask(at=fake.at, **{"timeout": LONG, **words})
 
     def test_members_are_what_the_node_says(self):
         for value in (TABLE, with_more(TABLE)):
@@ -74,7 +74,7 @@ class Answers(unittest.TestCase):
         with Fake() as fake:
             fake.refusals = 1
             with self.assertRaises(Busy):
-                lg_members.members(fake.at)
+                lg_members.members(fake.at, timeout=LONG)
         with self.assertRaises(Busy) as caught:
             self.asked(CLOSED)
         self.assertEqual(caught.exception.retry_after, 0)
@@ -83,7 +83,7 @@ class Answers(unittest.TestCase):
         with Fake() as fake:
             pass
         with self.assertRaises(NoAnswer):
-            lg_members.members(fake.at)
+            lg_members.members(fake.at, timeout=LONG)
 
     def test_an_answer_is_cut_off(self):
         """Behind each of its bytes."""
@@ -92,7 +92,7 @@ class Answers(unittest.TestCase):
             for size in range(1, len(whole)):
                 fake.instead.append(Last(whole[:size]))
                 with self.assertRaises(NoAnswer):
-                    lg_members.members(fake.at)
+                    lg_members.members(fake.at, timeout=LONG)
 
     def test_a_silent_node_is_given_up(self):
         for answer in (SILENT, b"HTTP/1.1 200 OK\r\n", reply(TABLE)[:-1]):
@@ -109,12 +109,12 @@ class Answers(unittest.TestCase):
             begun = time.monotonic()
             with self.assertRaises(NoAnswer):
                 lg_members.members(fake.at, timeout=0.5)
-            self.assertLess(time.monotonic() - begun, 1.5)
+            self.assertLess(time.monotonic() - begun, 10)
 
     def test_an_answer_comes_byte_after_byte(self):
         with Fake(member("a")) as fake:
             fake.slowness = 0.001
-            self.assertEqual([it.name for it in lg_members.members(fake.at)], ["a"])
+            self.assertEqual([it.name for it in lg_members.members(fake.at, timeout=LONG)], ["a"])
 
     def test_garbage_is_no_answer(self):
         endless = Last(b"HTTP/1.1 200 OK\r\n\r\n" + 2 * lg_members.MAX_ANSWER * b"[")
@@ -142,7 +142,7 @@ class Answers(unittest.TestCase):
             for it in tables:
                 fake.instead.append(reply(it))
                 with self.subTest(it), self.assertRaises(BadAnswer):
-                    lg_members.members(fake.at)
+                    lg_members.members(fake.at, timeout=LONG)
 
     def test_bodies_that_end_otherwise(self):
         """In chunks, or with the connection: no node sends such, and what stands before one may."""

@@ -30,6 +30,9 @@ impl Pace {
     };
 }
 
+/// A try that took so long asked in no haste: behind it a watcher waits as it does at first.
+const LONG_TRY: Duration = Duration::from_secs(5);
+
 /// Whether a watcher was stopped, and the socket that it waits for.
 #[derive(Default)]
 struct Shared {
@@ -301,7 +304,7 @@ impl Watch {
     /// Says until when to wait behind a try that failed, and took so long.
     fn rest_behind(&mut self, fault: &Error, took: Duration) {
         let Pace { first, longest, .. } = self.client.pace;
-        if took > longest {
+        if took > LONG_TRY {
             self.wait = first;
         }
         let asked = match fault {

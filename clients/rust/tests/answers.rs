@@ -195,7 +195,7 @@ fn a_slow_node_is_given_up() {
             .members()
             .unwrap_err();
         assert_eq!(kind(&fault), "NoAnswer");
-        assert!((Duration::from_millis(300)..Duration::from_secs(3)).contains(&begun.elapsed()));
+        assert!((Duration::from_millis(250)..Duration::from_secs(10)).contains(&begun.elapsed()));
     }
 }
 

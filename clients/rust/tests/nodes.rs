@@ -121,7 +121,7 @@ impl Node {
     }
 
     fn client(&self) -> Client {
-        Client::new(&*self.at)
+        Client::new(&*self.at).with_timeout(PATIENCE)
     }
 
     /// What it knows, and after how many events. None if it doesn't answer.

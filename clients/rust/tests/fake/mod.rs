@@ -143,9 +143,12 @@ impl Fake {
         self.place.to_string()
     }
 
-    /// A client of this server. Its waits are short.
+    /// A client of this server, which waits for a short time for changes. It is patient otherwise, since a machine may
+    /// be busy.
     pub fn client(&self) -> Client {
-        Client::new(self.at()).with_wait(Duration::from_secs(2))
+        Client::new(self.at())
+            .with_wait(ms(2000))
+            .with_timeout(ms(30_000))
     }
 
     pub fn says(&self, answer: String) {
@@ -291,6 +294,11 @@ fn is_closed(link: &TcpStream) -> bool {
         Ok(count) => count == 0,
         Err(error) => error.kind() != ErrorKind::WouldBlock || !is_set || !is_back,
     }
+}
+
+/// So many milliseconds.
+pub const fn ms(count: u64) -> Duration {
+    Duration::from_millis(count)
 }
 
 /// Waits until something holds. If it doesn't in time, the test fails.
