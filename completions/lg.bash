@@ -26,7 +26,7 @@ _lg() {
     *)
       case $COMP_CWORD:$word:${COMP_WORDS[1]} in
         1:-*) words='--help --version' ;;
-        1:*) words='answer order timeouts sim node check init members status watch leave help' ;;
+        1:*) words='answer order timeouts sim node check init members status watch leave version help' ;;
         *:answer) words='--name --help' ;;
         *:order) words='--names --words --help' ;;
         *:timeouts) words='--members --confirmations --alpha --beta --interval-ms --help' ;;
@@ -44,7 +44,8 @@ _lg() {
         *:status) words='--at --json --help' ;;
         *:watch) words='--at --json --help' ;;
         *:leave) words='--at --name --help' ;;
-        *:help) words='answer order timeouts sim node check init members status watch leave help' ;;
+        *:version) words='--help' ;;
+        *:help) words='answer order timeouts sim node check init members status watch leave version help' ;;
       esac
       ;;
   esac

@@ -9,15 +9,17 @@ use Rattle.lg_run.specs.Meaning.Checking.{ChecksSource}
 use Rattle.lg_run.specs.Meaning.Running.{RunsSource}
 use Rattle.lg_commands.specs.Meaning.Choosing.{order_text}
 use Rattle.lg_commands.specs.Meaning.Running.{FailsBy, RunsAnswer, RunsInit, RunsOrder, RunsSim, RunsTimeouts}
+use Rattle.lg_commands.specs.Meaning.Running.{RunsVersion}
 use Rattle.lg_commands.specs.declared.timeouts.Numbers.{Numbers}
 use Rattle.lg_client.specs.Meaning.Leaving.{LeavesNode}
 use Rattle.lg_command_line.specs.declared.asked.Question.{Question}
 use Rattle.lg_command_line.specs.Meaning.Commands.{Request, answer, ask, check, init, leave, node, order, sim, timeouts}
-use Rattle.lg_command_line.specs.Meaning.Commands.{asked, line_faults}
+use Rattle.lg_command_line.specs.Meaning.Commands.{asked, line_faults, version}
 use Rattle.lg_command_line.specs.Meaning.Commands.{IfAnswer, IfAsk, IfCheck, IfInit, IfLeave, IfNode, IfOrder, IfSim, IfTimeouts}
+use Rattle.lg_command_line.specs.Meaning.Commands.{IfVersion}
 use Rattle.lg_command_line.specs.Meaning.Commands.{RefusesLine}
 use Rattle.lg_cli.specs.Meaning.Running.{Streams, RunsNamed, RunsLists, RunsNumbers, RunsScript, RunsNodeSource, RunsCheck}
-use Rattle.lg_cli.specs.Meaning.Running.{AsksNode, RunsAsking, RunsFirstFile, RunsLeaving}
+use Rattle.lg_cli.specs.Meaning.Running.{AsksNode, RunsAsking, RunsFirstFile, RunsLeaving, RunsOwnVersion}
 use Rattle.lg_cli.specs.Meaning.Running.{RunsRequest, LacksUnread, LeavesUnread, RunsLine}
 
 abbrev IsCons : {X : Type 0} → List X → Type 0
@@ -39,6 +41,7 @@ NeedsNoMachine (check source) = ⊥
 NeedsNoMachine (ask question at json) = ⊥
 NeedsNoMachine init = Unit {0}
 NeedsNoMachine (leave at name) = ⊥
+NeedsNoMachine version = ⊥
 
 module _ (R W : Type 0) (before after : Streams R W) (status : ℕ) where
   of_answer : (P : List ℕ → Type 0) (r : Request) → RunsRequest before after r status
@@ -52,6 +55,7 @@ module _ (R W : Type 0) (before after : Streams R W) (status : ℕ) where
   of_answer P (ask question at json) run give = tt
   of_answer P init run give = tt
   of_answer P (leave at name) run give = tt
+  of_answer P version run give = tt
 
   of_order : (P : List ℕ → List ℕ → Type 0) (r : Request) → RunsRequest before after r status
       → ((names words : List ℕ) → RunsLists before after names words status → P names words) → IfOrder r P
@@ -64,6 +68,7 @@ module _ (R W : Type 0) (before after : Streams R W) (status : ℕ) where
   of_order P (ask question at json) run give = tt
   of_order P init run give = tt
   of_order P (leave at name) run give = tt
+  of_order P version run give = tt
 
   of_timeouts : (P : Numbers → Type 0) (r : Request) → RunsRequest before after r status
       → ((numbers : Numbers) → RunsNumbers before after numbers status → P numbers) → IfTimeouts r P
@@ -76,6 +81,7 @@ module _ (R W : Type 0) (before after : Streams R W) (status : ℕ) where
   of_timeouts P (ask question at json) run give = tt
   of_timeouts P init run give = tt
   of_timeouts P (leave at name) run give = tt
+  of_timeouts P version run give = tt
 
   of_sim : (P : Type 0) (r : Request) → RunsRequest before after r status
       → (RunsScript before after status → P) → IfSim r P
@@ -88,6 +94,7 @@ module _ (R W : Type 0) (before after : Streams R W) (status : ℕ) where
   of_sim P (ask question at json) run give = tt
   of_sim P init run give = tt
   of_sim P (leave at name) run give = tt
+  of_sim P version run give = tt
 
   of_node : (P : SourceValue → Option ℕ → Bool → Type 0) (r : Request) → RunsRequest before after r status
       → ((source : SourceValue) (for_ms : Option ℕ) (follow : Bool) → RunsNodeSource before after source for_ms follow status → P source for_ms follow)
@@ -101,6 +108,7 @@ module _ (R W : Type 0) (before after : Streams R W) (status : ℕ) where
   of_node P (ask question at json) run give = tt
   of_node P init run give = tt
   of_node P (leave at name) run give = tt
+  of_node P version run give = tt
 
   of_check : (P : SourceValue → Type 0) (r : Request) → RunsRequest before after r status
       → ((source : SourceValue) → RunsCheck before after source status → P source) → IfCheck r P
@@ -113,6 +121,7 @@ module _ (R W : Type 0) (before after : Streams R W) (status : ℕ) where
   of_check P (ask question at json) run give = tt
   of_check P init run give = tt
   of_check P (leave at name) run give = tt
+  of_check P version run give = tt
 
   of_ask : (P : Question → List ℕ → Bool → Type 0) (r : Request) → RunsRequest before after r status
       → ((question : Question) (at : List ℕ) (json : Bool) → RunsAsking before after question at json status
@@ -127,6 +136,7 @@ module _ (R W : Type 0) (before after : Streams R W) (status : ℕ) where
   of_ask P (ask question at json) run give = give question at json run
   of_ask P init run give = tt
   of_ask P (leave at name) run give = tt
+  of_ask P version run give = tt
 
   of_init : (P : Type 0) (r : Request) → RunsRequest before after r status
       → (RunsFirstFile before after status → P) → IfInit r P
@@ -139,6 +149,7 @@ module _ (R W : Type 0) (before after : Streams R W) (status : ℕ) where
   of_init P (ask question at json) run give = tt
   of_init P init run give = give run
   of_init P (leave at name) run give = tt
+  of_init P version run give = tt
 
   of_leave : (P : List ℕ → List ℕ → Type 0) (r : Request) → RunsRequest before after r status
       → ((at name : List ℕ) → RunsLeaving before after at name status → P at name) → IfLeave r P
@@ -151,6 +162,20 @@ module _ (R W : Type 0) (before after : Streams R W) (status : ℕ) where
   of_leave P (ask question at json) run give = tt
   of_leave P init run give = tt
   of_leave P (leave at name) run give = give at name run
+  of_leave P version run give = tt
+
+  of_version : (P : Type 0) (r : Request) → RunsRequest before after r status
+      → (RunsOwnVersion before after status → P) → IfVersion r P
+  of_version P (answer text) run give = tt
+  of_version P (order names words) run give = tt
+  of_version P (timeouts numbers) run give = tt
+  of_version P sim run give = tt
+  of_version P (node source for_ms follow until_input_ends) run give = tt
+  of_version P (check source) run give = tt
+  of_version P (ask question at json) run give = tt
+  of_version P init run give = tt
+  of_version P (leave at name) run give = tt
+  of_version P version run give = give run
 
   -- a run that failed, of a command that needs no machine
   run_fails : (r : Request) → NeedsNoMachine r → RunsRequest before after r status → status ≡ 1
@@ -164,6 +189,7 @@ module _ (R W : Type 0) (before after : Streams R W) (status : ℕ) where
   run_fails (ask question at json) other run one = absurd other
   run_fails init other run one = run.failed one
   run_fails (leave at name) other run one = absurd other
+  run_fails version other run one = absurd other
 
   -- such a run doesn't have the status of a refusal
   run_isnt_refused : (r : Request) → NeedsNoMachine r → RunsRequest before after r status → status ≢ 2
@@ -176,6 +202,7 @@ module _ (R W : Type 0) (before after : Streams R W) (status : ℕ) where
   run_isnt_refused (ask question at json) other run = absurd other
   run_isnt_refused init other run = run.run
   run_isnt_refused (leave at name) other run = absurd other
+  run_isnt_refused version other run = absurd other
 
   lacks_fails : LacksUnread before after status → FailsBy before.reported after.reported before.writer after.writer
   lacks_fails lacks = record { fault = Memory; line = lacks.1.told; unwritten = λ _. lacks.1.unwritten }
@@ -198,6 +225,7 @@ all_answer P (check source) give = tt
 all_answer P (ask question at json) give = tt
 all_answer P init give = tt
 all_answer P (leave at name) give = tt
+all_answer P version give = tt
 
 all_order : (P : List ℕ → List ℕ → Type 0) (r : Request) → ((names words : List ℕ) → P names words) → IfOrder r P
 all_order P (answer text) give = tt
@@ -209,6 +237,7 @@ all_order P (check source) give = tt
 all_order P (ask question at json) give = tt
 all_order P init give = tt
 all_order P (leave at name) give = tt
+all_order P version give = tt
 
 all_timeouts : (P : Numbers → Type 0) (r : Request) → ((numbers : Numbers) → P numbers) → IfTimeouts r P
 all_timeouts P (answer text) give = tt
@@ -220,6 +249,7 @@ all_timeouts P (check source) give = tt
 all_timeouts P (ask question at json) give = tt
 all_timeouts P init give = tt
 all_timeouts P (leave at name) give = tt
+all_timeouts P version give = tt
 
 all_sim : (P : Type 0) (r : Request) → P → IfSim r P
 all_sim P (answer text) give = tt
@@ -231,6 +261,7 @@ all_sim P (check source) give = tt
 all_sim P (ask question at json) give = tt
 all_sim P init give = tt
 all_sim P (leave at name) give = tt
+all_sim P version give = tt
 
 all_node : (P : SourceValue → Option ℕ → Bool → Type 0) (r : Request) → ((source : SourceValue) (for_ms : Option ℕ) (follow : Bool) → P source for_ms follow)
     → IfNode r (λ source for_ms follow until_input_ends. P source for_ms follow)
@@ -243,6 +274,7 @@ all_node P (check source) give = tt
 all_node P (ask question at json) give = tt
 all_node P init give = tt
 all_node P (leave at name) give = tt
+all_node P version give = tt
 
 all_check : (P : SourceValue → Type 0) (r : Request) → ((source : SourceValue) → P source) → IfCheck r P
 all_check P (answer text) give = tt
@@ -254,6 +286,7 @@ all_check P (check source) give = give source
 all_check P (ask question at json) give = tt
 all_check P init give = tt
 all_check P (leave at name) give = tt
+all_check P version give = tt
 
 all_ask : (P : Question → List ℕ → Bool → Type 0) (r : Request)
     → ((question : Question) (at : List ℕ) (json : Bool) → P question at json) → IfAsk r P
@@ -266,6 +299,7 @@ all_ask P (check source) give = tt
 all_ask P (ask question at json) give = give question at json
 all_ask P init give = tt
 all_ask P (leave at name) give = tt
+all_ask P version give = tt
 
 all_init : (P : Type 0) (r : Request) → P → IfInit r P
 all_init P (answer text) give = tt
@@ -277,6 +311,7 @@ all_init P (check source) give = tt
 all_init P (ask question at json) give = tt
 all_init P init give = give
 all_init P (leave at name) give = tt
+all_init P version give = tt
 
 all_leave : (P : List ℕ → List ℕ → Type 0) (r : Request) → ((at name : List ℕ) → P at name) → IfLeave r P
 all_leave P (answer text) give = tt
@@ -288,6 +323,7 @@ all_leave P (check source) give = tt
 all_leave P (ask question at json) give = tt
 all_leave P init give = tt
 all_leave P (leave at name) give = give at name
+all_leave P version give = tt
 
 module _ (R W : Type 0) (before after : Streams R W) (line : List (List ℕ)) (status : ℕ) (runs : RunsLine before after line status) where
   -- the command's run, where memory wasn't refused for reading the line
@@ -488,7 +524,12 @@ module _ (R W : Type 0) (before after : Streams R W) (line : List (List ℕ)) (s
     | inr lacks ↦ all_leave (λ at name. after.writer ≡ before.writer) (asked line) (λ at name. lacks.1.unwritten)
   ]
 
-  -- unless `node` or `check` is run, or a node is asked, a refusal writes nothing
+  -- `version` writes its text by the end of some file, unless the status says that something failed
+  pub told : line_faults line ≡ [] → status ≢ 1 → IfVersion (asked line)
+      ((end : List ℕ) × RunsVersion before.held after.held before.reported after.reported end status)
+  told none other = of_version R W before after status _ (asked line) (run_of none other) (λ run. (run.told.end, run.told.written other))
+
+  -- unless `node`, `check` or `version` is run, or a node is asked, a refusal writes nothing
   pub unwritten : (line_faults line ≡ [] → NeedsNoMachine (asked line)) → status ≡ 2
       → after.writer ≡ before.writer
   unwritten other two = elim (nil_or (line_faults line)) [

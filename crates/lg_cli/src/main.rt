@@ -6,6 +6,7 @@ mod ending;
 mod node;
 mod output;
 mod program;
+mod version;
 
 use node::Owned;
 use output::Output;

@@ -9,6 +9,7 @@ ghost use Rattle.lg_text.specs.Meaning.Faults.{run_fault_text};
 ghost use Rattle.lg_text.specs.Meaning.Reporting.{Reports};
 ghost use Rattle.lg_commands.specs.Meaning.Timeouts.{are_good};
 ghost use Rattle.lg_command_line.specs.Meaning.Commands.{IfAsk, IfCheck, IfLeave, IfNode, IfTimeouts};
+ghost use Rattle.lg_command_line.specs.Meaning.Commands.{IfVersion};
 ghost use Rattle.lg_command_line.specs.Support.Requests.{request_of};
 ghost use Rattle.lg_cli.specs.Meaning.Faults.{foreign_text};
 ghost use Rattle.lg_cli.specs.Meaning.Running.{streams, RunsLine, RunsRequest};
@@ -16,6 +17,7 @@ ghost use Rattle.lg_cli.specs.Meaning.Running.{streams, RunsLine, RunsRequest};
 use crate::ask::{AskWords, ask_node};
 use crate::node::{NodeWords, Owned, begin_node};
 use crate::output::Pumped;
+use crate::version::tell_version;
 use lg_client::leave_node;
 use lg_command_line::{Asked, MAX_RUN_MS, take_words};
 use lg_commands::{FAILED, USAGE, answer_named, order_lists, simulate, timeouts_of, write_init};
@@ -37,11 +39,12 @@ use std::{io, rt};
 ///
 /// `reader`, `writer` and `faults` stand for standard input, output and error. Only `answer` and `sim` read. `owned`
 /// has standard input and output too, for the threads of `node --until-input-ends` and `node --follow`
-/// ([`begin_node`]). A line that `faults` doesn't take is dropped. `node`, `check`, `members`, `status`, `watch` and
-/// `leave` alone use the machine `rt`. The first two read their file, if one is named. `node` takes sockets, a clock
+/// ([`begin_node`]). A line that `faults` doesn't take is dropped. `node`, `check`, `members`, `status`, `watch`, `leave`
+/// and `version` alone use the machine `rt`. The first two read their file, if one is named. `node` takes sockets, a clock
 /// and threads, writes its members, and tells its end, with the statuses of [`run_bytes`]. If its file gives no bytes,
 /// or its stop flag can't be had, it isn't run, and has the status of [`begin_node`]. `check` has those of
-/// [`check_source`]. The other four ask a running node, with the statuses of [`tell_answer`](lg_client::tell_answer),
+/// [`check_source`]. `version` reads the end of the program's own file ([`tell_version`]). The other four ask a running
+/// node, with the statuses of [`tell_answer`](lg_client::tell_answer),
 /// [`watch_changes`](lg_client::watch_changes) and [`leave_node`]. The statuses of all other command lines are:
 ///
 /// - 0 if all was done. This includes help and the version, if they were asked for and written.
@@ -160,6 +163,7 @@ where
             ask_node(rt, alloc, &words, writer, faults)
         }
         Asked::Leave { at, name } => leave_node(rt, alloc, at, name, faults),
+        Asked::Version => tell_version(rt, alloc, writer, faults),
         _ => run_without_machine(alloc, asked, reader, writer, faults),
     }
 }
@@ -180,6 +184,7 @@ where
     requires no_check { IfCheck (request_of asked) (λ source. ⊥) }
     requires no_question { IfAsk (request_of asked) (λ question at json. ⊥) }
     requires no_leave { IfLeave (request_of asked) (λ at name. ⊥) }
+    requires no_version { IfVersion (request_of asked) ⊥ }
     requires good { IfTimeouts (request_of asked) (λ numbers. are_good numbers ≡ true) }
     ensures { RunsRequest
         (streams reader.old (R.remaining reader.old) writer.old (W.contents writer.old) (F.reported faults.old))
@@ -192,9 +197,11 @@ where
         Asked::Sim => simulate(alloc, reader, writer, faults),
         Asked::Timeouts { numbers } => timeouts_of(alloc, &numbers, writer, faults),
         Asked::Init => write_init(writer, faults),
-        Asked::Node { .. } | Asked::Check { .. } | Asked::Ask { .. } | Asked::Leave { .. } => {
-            unreachable!()
-        }
+        Asked::Node { .. }
+        | Asked::Check { .. }
+        | Asked::Ask { .. }
+        | Asked::Leave { .. }
+        | Asked::Version => unreachable!(),
     }
 }
 

@@ -84,6 +84,8 @@ pub enum Asked<'a> {
     },
     /// The command `sim`.
     Sim,
+    /// The command `version`.
+    Version,
     /// The command `timeouts`.
     Timeouts {
         /// Its numbers.
@@ -109,7 +111,8 @@ impl Asked<'_> {
             | Asked::Ask { .. }
             | Asked::Init
             | Asked::Leave { .. }
-            | Asked::Sim => true,
+            | Asked::Sim
+            | Asked::Version => true,
         }
     }
 }

@@ -50,7 +50,7 @@ const ASK: &[OptionRow<'static>] = &[
 ];
 
 /// The commands, in the order of the help.
-const COMMANDS: [CommandRow<'static>; 11] = [
+const COMMANDS: [CommandRow<'static>; 12] = [
     CommandRow {
         name: "answer",
         about: "Answers packets, a line of hex each, as a detector does",
@@ -180,6 +180,12 @@ const COMMANDS: [CommandRow<'static>; 11] = [
                 help: "The node's name; without it, the node is asked for it first",
             },
         ],
+        keys: &[],
+    },
+    CommandRow {
+        name: "version",
+        about: "Writes the version of the program, and how it was built",
+        options: &[],
         keys: &[],
     },
 ];

@@ -4,6 +4,6 @@
 //! Tested in: `cases/command_line.case`.
 
 /// The version of the program, and the wire versions that it reads and writes. The parser writes the program's name
-/// before it, and a newline after it. It names no kit: a program can't know which one proved and built it.
-pub(crate) const VERSION: &str = "0.2.0\n\
+/// before it, and a newline after it. Which kit proved and built it the command `version` tells.
+pub(crate) const VERSION: &str = "0.9.0\n\
     reads and writes packets of versions 1 to 3";

@@ -121,6 +121,7 @@ fn asked_of<'a>(alloc: Global, name: &str, found: &ArgMatches<'a>) -> Result<Ask
             at: text_in(found, "at"),
             name: text_in(found, "name"),
         }),
+        "version" => Ok(Asked::Version),
         _ => Ok(Asked::Answer {
             name: text_in(found, "name"),
         }),

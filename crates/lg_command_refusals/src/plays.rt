@@ -1,5 +1,5 @@
 //! The commands that read an input or lists, each with what comes of it if nothing fails.
-use lg_commands::{Numbers, answer_named, order_lists, simulate, timeouts_of};
+use lg_commands::{Numbers, answer_named, order_lists, simulate, timeouts_of, write_version};
 use lg_testing::Room;
 use lg_text::{RunFault, read_input, report, write_whole};
 use std::alloc::Global;
@@ -36,6 +36,8 @@ pub enum Command {
     Order,
     /// `timeouts` for four members and the defaults.
     Timeouts,
+    /// `version`, whose input stands for the end of the program's file.
+    Version,
 }
 
 /// A command, its input, the text that it writes, and its status.
@@ -48,8 +50,8 @@ pub struct Play {
 }
 
 /// A text with an empty line and a last one without a newline. A script with a faulty line, and one with each kind of
-/// line that has a reply of its own. A Ping, which has an Ack.
-pub const PLAYS: [Play; 6] = [
+/// line that has a reply of its own. A Ping, which has an Ack. The note of a build, and none.
+pub const PLAYS: [Play; 8] = [
     Play {
         command: Command::Copying,
         input: "ab\n\nc",
@@ -90,6 +92,19 @@ pub const PLAYS: [Play; 6] = [
             record a left 0 127.0.0.1:7001\nrecord b alive 0 127.0.0.1:7002\n",
         status: 0,
     },
+    Play {
+        command: Command::Version,
+        input: "lg build 1\ncommit 27499ed3\nkit k\nproved yes\n\0\0\0",
+        text: "version 0.9.0\npackets 1 to 3\ncommit 27499ed3\nkit k\nproved yes\n",
+        status: 0,
+    },
+    Play {
+        command: Command::Version,
+        input: "",
+        text: "version 0.9.0\npackets 1 to 3\ncommit unknown\nkit unknown\n\
+            proved unknown: the program has no note of its build\n",
+        status: 0,
+    },
 ];
 
 /// Reads an input whole and writes it.
@@ -127,6 +142,7 @@ impl Command {
             Command::Answer => answer_named(alloc, "b", &mut reader, writer, faults),
             Command::Order => order_lists(alloc, "a,b", "0,0,1,0", writer, faults),
             Command::Timeouts => timeouts_of(alloc, &numbers, writer, faults),
+            Command::Version => write_version(alloc, input, writer, faults),
         }
     }
 }

@@ -8,3 +8,5 @@ pub mod InitExamples
 pub mod Running
 pub mod Spelled
 pub mod Timeouts
+pub mod Version
+pub mod VersionExamples

@@ -1,9 +1,9 @@
-//! The commands `answer`, `order`, `timeouts`, `sim` and `init`, over any reader and writers: what they write, and
-//! their statuses. None of them uses a clock, a socket or a file.
+//! The commands `answer`, `order`, `timeouts`, `sim`, `init` and `version`, over any reader and writers: what they
+//! write, and their statuses. None of them uses a clock, a socket or a file.
 //!
 //! Where to read on:
-//! - what `answer`, `order`, `timeouts` and `init` write: `specs/Meaning/Answering.antt`, `Choosing.antt`,
-//!   `Timeouts.antt` and `Init.antt`; what `sim` writes: `lg_sim`;
+//! - what `answer`, `order`, `timeouts`, `init` and `version` write: `specs/Meaning/Answering.antt`, `Choosing.antt`,
+//!   `Timeouts.antt`, `Init.antt` and `Version.antt`; what `sim` writes: `lg_sim`;
 //! - how a run ends, and its status: `specs/Meaning/Running.antt`;
 //! - which command a command line asks for: `lg_command_line`.
 #![tactic(auto)]
@@ -15,11 +15,13 @@ mod order;
 mod run;
 mod status;
 mod timeouts;
+mod version;
 
 pub use line::LineFault;
 pub use order::{BadList, OrderFault};
-pub use run::{answer_run, order_run, timeouts_run};
+pub use run::{answer_run, order_run, timeouts_run, version_run};
 pub use status::{
     BAD_INPUT, FAILED, USAGE, answer_named, order_lists, simulate, timeouts_of, write_init,
+    write_version,
 };
 pub use timeouts::Numbers;

@@ -10,10 +10,12 @@ ghost use Rattle.lg_commands.specs.Meaning.Answering.{answer_end, answer_text};
 ghost use Rattle.lg_commands.specs.Meaning.Choosing.{order_text};
 ghost use Rattle.lg_commands.specs.Meaning.Running.{is_order_unwritten, IsFaultOf};
 ghost use Rattle.lg_commands.specs.Meaning.Timeouts.{are_good, timeouts_text};
+ghost use Rattle.lg_commands.specs.Meaning.Version.{version_text};
 
 use crate::answer::answer;
 use crate::order::{BadList, OrderFault, order};
 use crate::timeouts::{Numbers, timeouts};
+use crate::version::version_text;
 use lg_rules::Name;
 use lg_text::{MAX_INPUT, RunEnd, RunFault, read_input, write_text};
 use std::alloc::Global;
@@ -71,6 +73,23 @@ pub fn timeouts_run<W: Write>(
 {
     let text = timeouts(alloc, numbers)?;
     write_text(writer, text.as_bytes())
+}
+
+/// Runs the command `version`: writes the version of the program, that of the packets, and how the program was built, by
+/// the end of its file, and nothing else.
+///
+/// The whole text is made before its first byte is written, so with [`RunFault::Memory`] nothing is written. With
+/// [`RunFault::Write`] a beginning of the text is written: none of it, a part or all. Time and memory are in proportion
+/// to the end that is given.
+pub fn version_run<W: Write>(alloc: Global, writer: &mut W, end: &[u8]) -> Result<(), RunFault>
+    ensures text { OnOk result (Appends (W.contents writer.old) (W.contents writer.new) (version_text end.now)) }
+    ensures refused { IfErr result (λ fault. is_unread fault ≡ false) }
+    ensures unwritten { IfErr result (λ fault. is_unwritten fault ≡ false → writer.new ≡ writer.old) }
+    ensures partly { IfErr result (λ fault. is_unwritten fault ≡ true
+        → AppendsFront (W.contents writer.old) (W.contents writer.new) (version_text end.now)) }
+{
+    let text = version_text(alloc, end)?;
+    write_text(writer, &text)
 }
 
 /// Runs the command `order`: writes whom words choose one after another from some names, a line each, and nothing

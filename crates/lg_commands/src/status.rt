@@ -1,7 +1,8 @@
 //! Runs a command, reports why it failed, and gives the exit status.
 //!
 //! Defined in: `specs/Meaning/Running.antt`, `specs/Meaning/Choosing.antt`, `lg_rules/specs/Meaning/Name.antt`.
-//! Tested in: `cases/command_line.case`, `cases/order.case`, `cases/timeouts_command.case`, `cases/init.case`.
+//! Tested in: `cases/command_line.case`, `cases/order.case`, `cases/timeouts_command.case`, `cases/init.case`,
+//! `lg_command_refusals/src/plays.rt`.
 ghost use Rattle.std.specs.Prelude.{◌≡◌, ◌≢◌, ◌⊎◌, Err, IfOk, true};
 ghost use Rattle.std.specs.Result.{is_err};
 ghost use Rattle.lg_rules.specs.Meaning.Name.{name_of_text};
@@ -11,11 +12,13 @@ ghost use Rattle.lg_commands.specs.Meaning.Choosing.{order_text};
 ghost use Rattle.lg_commands.specs.Meaning.Faults.{bad_list_text};
 ghost use Rattle.lg_commands.specs.Meaning.Init.{init_text};
 ghost use Rattle.lg_commands.specs.Meaning.Running.{FailsBy, RunsAnswer, RunsInit, RunsOrder, RunsSim, RunsTimeouts};
+ghost use Rattle.lg_commands.specs.Meaning.Running.{RunsVersion};
 ghost use Rattle.lg_commands.specs.Meaning.Timeouts.{are_good};
+ghost use Rattle.lg_commands.specs.Meaning.Version.{version_text};
 
 use crate::init::init_text;
 use crate::order::{BadList, OrderFault};
-use crate::run::{answer_run, order_run, timeouts_run};
+use crate::run::{answer_run, order_run, timeouts_run, version_run};
 use crate::timeouts::Numbers;
 use lg_rules::Name;
 use lg_text::{FaultStream, report, write_text};
@@ -176,6 +179,34 @@ pub fn write_init<W: Write, F: FaultStream>(writer: &mut W, faults: &mut F) -> u
     ensures run { result ≢ USAGE }
 {
     match write_text(writer, init_text().as_bytes()) {
+        Ok(()) => 0,
+        Err(fault) => {
+            report(faults, fault.text());
+            FAILED
+        }
+    }
+}
+
+/// Runs `version`, as [`version_run`] does, for the end of the program's file. Gives the status, which is 0 if all was
+/// written.
+///
+/// A run that fails is reported, and its status is [`FAILED`]. If it is a write that fails, a beginning of the text is
+/// written: none of it, a part or all. A line that `faults` doesn't take is dropped.
+pub fn write_version<W: Write, F: FaultStream>(
+    alloc: Global,
+    end: &[u8],
+    writer: &mut W,
+    faults: &mut F,
+) -> u8
+    ensures written { result ≢ FAILED → RunsVersion (W.contents writer.old) (W.contents writer.new)
+        (F.reported faults.old) (F.reported faults.new) end.now result }
+    ensures failed { result ≡ FAILED
+        → FailsBy (F.reported faults.old) (F.reported faults.new) writer.old writer.new }
+    ensures partly { result ≡ FAILED → (writer.new ≡ writer.old)
+        ⊎ AppendsFront (W.contents writer.old) (W.contents writer.new) (version_text end.now) }
+    ensures run { result ≢ USAGE }
+{
+    match version_run(alloc, writer, end) {
         Ok(()) => 0,
         Err(fault) => {
             report(faults, fault.text());

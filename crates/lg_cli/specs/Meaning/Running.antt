@@ -6,6 +6,7 @@ use Rattle.lg_text.specs.Meaning.Reporting.{Reported}
 use Rattle.lg_text.specs.Meaning.Running.{ReadsWhole}
 use Rattle.lg_commands.specs.Meaning.Choosing.{order_text}
 use Rattle.lg_commands.specs.Meaning.Running.{FailsBy, RunsAnswer, RunsInit, RunsOrder, RunsSim, RunsTimeouts}
+use Rattle.lg_commands.specs.Meaning.Running.{RunsVersion}
 use Rattle.lg_commands.specs.declared.timeouts.Numbers.{Numbers}
 use Rattle.lg_config.specs.Meaning.Options.{SourceValue}
 use Rattle.lg_run.specs.Meaning.Checking.{ChecksSource}
@@ -17,7 +18,7 @@ use Rattle.lg_client.specs.Meaning.Watching.{WatchesChanges}
 use Rattle.lg_command_line.specs.declared.asked.Question.{Question}
 use Rattle.lg_command_line.specs.declared.asked.Question.TheVariants.{Members, Status, Watch}
 use Rattle.lg_command_line.specs.Meaning.Commands.{Request, answer, ask, check, init, leave, node, order, sim}
-use Rattle.lg_command_line.specs.Meaning.Commands.{timeouts}
+use Rattle.lg_command_line.specs.Meaning.Commands.{timeouts, version}
 use Rattle.lg_command_line.specs.Meaning.Commands.{asked, line_faults}
 use Rattle.lg_command_line.specs.Meaning.Leaving.{LacksMemory, LeavesLine}
 
@@ -121,6 +122,21 @@ pub record RunsLeaving {R W : Type 0} (before after : Streams R W) (at name : Li
   pub unread : after.reader ≡ before.reader
   pub unwritten : after.writer ≡ before.writer
 
+-- What `version` writes, by the end of the program's own file. What a file holds no contract can say.
+pub record TellsVersion
+    {W : Type 0} (before after : W) (held holds : Option (List ℕ)) (reported reports : Reported) (status : ℕ)
+    : Type 0 where
+  pub end : List ℕ
+  pub written : status ≢ 1 → RunsVersion held holds reported reports end status
+  pub failed : status ≡ 1 → FailsBy reported reports before after
+  pub run : status ≢ 2
+
+-- `version` is run. Nothing is read from the reader.
+pub record RunsOwnVersion {R W : Type 0} (before after : Streams R W) (status : ℕ) : Type 0 where
+  pub told :
+      TellsVersion before.writer after.writer before.held after.held before.reported after.reported status
+  pub unread : after.reader ≡ before.reader
+
 -- The command line isn't run, and nothing is read.
 abbrev pub LacksUnread : {R W : Type 0} → (before after : Streams R W) → ℕ → Type 0
 LacksUnread before after status = (after.reader ≡ before.reader)
@@ -142,6 +158,7 @@ RunsRequest before after (check source) status = RunsCheck before after source s
 RunsRequest before after (ask question at json) status = RunsAsking before after question at json status
 RunsRequest before after init status = RunsFirstFile before after status
 RunsRequest before after (leave at name) status = RunsLeaving before after at name status
+RunsRequest before after version status = RunsOwnVersion before after status
 
 -- A command line that is taken runs its command, and any other is left; or memory was refused for reading it. Nothing
 -- is read for a line that isn't run.

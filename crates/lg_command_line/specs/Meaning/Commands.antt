@@ -130,15 +130,20 @@ with_questions lg =
 abbrev pub leave_app : App
 leave_app = with_rule (with_rule (new_app (codes "leave")) at_rule) (optional_text_rule (codes "name"))
 
+-- this command has no options
+abbrev pub version_app : App
+version_app = new_app (codes "version")
+
 -- The program has the commands `answer`, `order`, `timeouts`, `sim`, `node`, `check` and `init`, and `members`,
--- `status`, `watch` and `leave`, which ask a running node. One of them has to be named. It has a version, which
--- `--version` and `-V` ask for.
+-- `status`, `watch` and `leave`, which ask a running node, and `version`. One of them has to be named. It has a version,
+-- which `--version` and `-V` ask for.
 abbrev pub lg_app : App
 lg_app =
     let lg = on_top (λ s. record s { has_version = true; subcommand_required = true }) (new_app (codes "lg")) in
     let first = with_subcommand (with_subcommand (with_subcommand lg answer_app.top) order_app.top) timeouts_app.top in
     let others = with_subcommand (with_subcommand (with_subcommand first sim_app.top) node_app.top) check_app.top in
-    with_subcommand (with_questions (with_subcommand others init_app.top)) leave_app.top
+    let asking = with_subcommand (with_questions (with_subcommand others init_app.top)) leave_app.top in
+    with_subcommand asking version_app.top
 
 -- the text of an option, or an empty text if it has none
 abbrev pub text_in : List Row → Text → Text
@@ -184,6 +189,7 @@ pub data Request : Type 0 where
   ask : Question → Text → Bool → Request
   init : Request
   leave : Text → Text → Request
+  version : Request
 
 -- whether the command of this name was met
 abbrev pub is_met : Text → Option (Text × List Row) → Bool
@@ -216,6 +222,7 @@ request_of_rows met =
     else if is_met (codes "watch") met then ask_of_rows Watch rows
     else if is_met (codes "init") met then init
     else if is_met (codes "leave") met then leave (text_in rows (codes "at")) (text_in rows (codes "name"))
+    else if is_met (codes "version") met then version
     else answer (text_in rows (codes "name"))
 
 -- what a command line asks for, if it is taken
@@ -233,6 +240,7 @@ has_good_numbers (check source) = true
 has_good_numbers (ask question at json) = true
 has_good_numbers init = true
 has_good_numbers (leave at name) = true
+has_good_numbers version = true
 
 -- the fault of numbers that aren't good
 abbrev pub request_faults : Request → Kinds
@@ -253,6 +261,7 @@ IfAnswer (check source) P = Unit {0}
 IfAnswer (ask question at json) P = Unit {0}
 IfAnswer init P = Unit {0}
 IfAnswer (leave at name) P = Unit {0}
+IfAnswer version P = Unit {0}
 
 -- a fact about the two texts of `order`: its names and its words
 abbrev pub IfOrder : Request → (Text → Text → Type 0) → Type 0
@@ -265,6 +274,7 @@ IfOrder (check source) P = Unit {0}
 IfOrder (ask question at json) P = Unit {0}
 IfOrder init P = Unit {0}
 IfOrder (leave at name) P = Unit {0}
+IfOrder version P = Unit {0}
 
 -- a fact about the numbers of `timeouts`
 abbrev pub IfTimeouts : Request → (Numbers → Type 0) → Type 0
@@ -277,6 +287,7 @@ IfTimeouts (check source) P = Unit {0}
 IfTimeouts (ask question at json) P = Unit {0}
 IfTimeouts init P = Unit {0}
 IfTimeouts (leave at name) P = Unit {0}
+IfTimeouts version P = Unit {0}
 
 -- a fact that holds if `sim` is asked for
 abbrev pub IfSim : Request → Type 0 → Type 0
@@ -289,6 +300,7 @@ IfSim (check source) P = Unit {0}
 IfSim (ask question at json) P = Unit {0}
 IfSim init P = Unit {0}
 IfSim (leave at name) P = Unit {0}
+IfSim version P = Unit {0}
 
 -- a fact about the options of `node`: where its configuration comes from, its time, whether it follows, and whether it
 -- ends with its input
@@ -302,6 +314,7 @@ IfNode (check source) P = Unit {0}
 IfNode (ask question at json) P = Unit {0}
 IfNode init P = Unit {0}
 IfNode (leave at name) P = Unit {0}
+IfNode version P = Unit {0}
 
 -- a fact about where the configuration of `check` comes from
 abbrev pub IfCheck : Request → (SourceValue → Type 0) → Type 0
@@ -314,6 +327,7 @@ IfCheck (check source) P = P source
 IfCheck (ask question at json) P = Unit {0}
 IfCheck init P = Unit {0}
 IfCheck (leave at name) P = Unit {0}
+IfCheck version P = Unit {0}
 
 -- a fact about a question to a running node, the text of its address, and whether the answers are written as they come
 abbrev pub IfAsk : Request → (Question → Text → Bool → Type 0) → Type 0
@@ -326,6 +340,7 @@ IfAsk (check source) P = Unit {0}
 IfAsk (ask question at json) P = P question at json
 IfAsk init P = Unit {0}
 IfAsk (leave at name) P = Unit {0}
+IfAsk version P = Unit {0}
 
 -- a fact that holds if `init` is asked for
 abbrev pub IfInit : Request → Type 0 → Type 0
@@ -338,6 +353,7 @@ IfInit (check source) P = Unit {0}
 IfInit (ask question at json) P = Unit {0}
 IfInit init P = P
 IfInit (leave at name) P = Unit {0}
+IfInit version P = Unit {0}
 
 -- a fact about the two texts of `leave`: the node's address and its name
 abbrev pub IfLeave : Request → (Text → Text → Type 0) → Type 0
@@ -350,6 +366,20 @@ IfLeave (check source) P = Unit {0}
 IfLeave (ask question at json) P = Unit {0}
 IfLeave init P = Unit {0}
 IfLeave (leave at name) P = P at name
+IfLeave version P = Unit {0}
+
+-- a fact that holds if `version` is asked for
+abbrev pub IfVersion : Request → Type 0 → Type 0
+IfVersion (answer text) P = Unit {0}
+IfVersion (order names words) P = Unit {0}
+IfVersion (timeouts numbers) P = Unit {0}
+IfVersion sim P = Unit {0}
+IfVersion (node source for_ms follow until_input_ends) P = Unit {0}
+IfVersion (check source) P = Unit {0}
+IfVersion (ask question at json) P = Unit {0}
+IfVersion init P = Unit {0}
+IfVersion (leave at name) P = Unit {0}
+IfVersion version P = P
 
 -- the status of a command line that isn't run: 0 if it asks for help or for the version
 abbrev pub status_of_kind : ErrorKind → ℕ

@@ -8,6 +8,7 @@ use Rattle.lg_timing.specs.Meaning.Keys.{row_of}
 use Rattle.clap.specs.Walk.{Text}
 use Rattle.lg_config.specs.Meaning.Options.{SourceValue}
 use Rattle.lg_command_line.specs.Meaning.Commands.{answer, ask, check, init, leave, node, order, timeouts}
+use Rattle.lg_command_line.specs.Meaning.Commands.{version}
 use Rattle.lg_command_line.specs.Meaning.Commands.{asked, line_faults}
 use Rattle.lg_command_line.specs.declared.asked.Question.TheVariants.{Members, Status, Watch}
 
@@ -153,9 +154,9 @@ nothing-to-check :
 unfolding asked clap_on_literals
 nothing-to-check = refl
 
-version : line_faults (codes "lg" ∷ codes "--version" ∷ []) ≡ kind.DisplayVersion ∷ []
+version-option : line_faults (codes "lg" ∷ codes "--version" ∷ []) ≡ kind.DisplayVersion ∷ []
 unfolding line_faults asked clap_on_literals
-version = refl
+version-option = refl
 
 no-file : line_faults (codes "lg" ∷ codes "node" ∷ codes "--for-ms=1" ∷ []) ≡ []
 unfolding line_faults asked clap_on_literals
@@ -263,3 +264,11 @@ two-nodes = refl
 no-json-of-a-leave : line_faults (codes "lg" ∷ codes "leave" ∷ codes "--json" ∷ []) ≡ kind.UnknownArgument ∷ []
 unfolding line_faults asked clap_on_literals
 no-json-of-a-leave = refl
+
+the-version : asked (codes "lg" ∷ codes "version" ∷ []) ≡ version
+unfolding asked clap_on_literals
+the-version = refl
+
+nothing-given-to-version : line_faults (codes "lg" ∷ codes "version" ∷ []) ≡ []
+unfolding line_faults asked clap_on_literals
+nothing-given-to-version = refl

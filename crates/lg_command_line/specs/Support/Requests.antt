@@ -6,9 +6,10 @@ use Rattle.clap.specs.Walk.{Text}
 use Rattle.lg_config.specs.declared.given.Given.{Given}
 use Rattle.lg_config.specs.Meaning.Options.{options_of, SourceValue}
 use Rattle.lg_command_line.specs.Meaning.Commands.{Request, answer, ask, check, init, leave, node, order, sim, timeouts}
+use Rattle.lg_command_line.specs.Meaning.Commands.{version}
 use Rattle.lg_command_line.specs.declared.asked.Asked.{Asked}
 use Rattle.lg_command_line.specs.declared.asked.Asked.TheVariants.{Answer, Ask, Check, Init, Leave, Node, Order}
-use Rattle.lg_command_line.specs.declared.asked.Asked.TheVariants.{Sim, Timeouts}
+use Rattle.lg_command_line.specs.declared.asked.Asked.TheVariants.{Sim, Timeouts, Version}
 
 -- where a configuration comes from, by the path of a file and what options give
 abbrev pub source_with : Option (Bor Text) → List Given → SourceValue
@@ -25,3 +26,4 @@ request_of (Check file given) = check (source_with file given.items)
 request_of (Ask question at json) = ask question at.now json
 request_of Init = init
 request_of (Leave at name) = leave at.now name.now
+request_of Version = version

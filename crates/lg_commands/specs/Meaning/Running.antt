@@ -13,6 +13,7 @@ use Rattle.lg_commands.specs.Meaning.Answering.{answer_end, answer_text}
 use Rattle.lg_commands.specs.Meaning.Faults.{bad_list_text}
 use Rattle.lg_commands.specs.Meaning.Init.{init_text}
 use Rattle.lg_commands.specs.Meaning.Timeouts.{timeouts_text}
+use Rattle.lg_commands.specs.Meaning.Version.{version_text}
 use Rattle.lg_commands.specs.declared.order.BadList.{BadList}
 use Rattle.lg_commands.specs.declared.order.OrderFault.{OrderFault}
 use Rattle.lg_commands.specs.declared.order.OrderFault.TheVariants.{Bad, Run}
@@ -60,6 +61,13 @@ pub record RunsInit (held holds : Option (List ℕ)) (reported reports : Reporte
   pub is : status ≡ 0
   pub silent : reports ≡ reported
   pub written : Appends held holds init_text
+
+-- The version is written, by the end of the program's file, nothing is reported, and the status is 0.
+pub record RunsVersion (held holds : Option (List ℕ)) (reported reports : Reported) (end : List ℕ) (status : ℕ)
+    : Type 0 where
+  pub is : status ≡ 0
+  pub silent : reports ≡ reported
+  pub written : Appends held holds (version_text end)
 
 -- The choices are written, nothing is reported, and the status is 0.
 pub record WritesChoices (held holds : Option (List ℕ)) (reported reports : Reported) (text : List ℕ) (status : ℕ)

@@ -55,3 +55,18 @@ returns-in-Leave g c =
       unread = refl {a = reader};
       unwritten = refl {a = writer};
     })
+
+pub returns-in-Version : goal.returns-in-Version
+returns-in-Version g c =
+    let remaining = g.R.Read.remaining in
+    let contents = g.W.Write.contents in
+    let reported = g.F.FaultStream.reported in
+    let reader = c.args.reader.now in
+    let ran = c.tell_version in
+    let before = streams reader (remaining reader) c.args.writer.now (contents c.args.writer.now) (reported c.args.faults.now) in
+    let after = streams reader (remaining reader) ran.new.writer (contents ran.new.writer) (reported ran.new.faults) in
+    found-runs before after ran.result c.in-Version.is
+    (record {
+      told = ran.ensures;
+      unread = refl {a = reader};
+    })
