@@ -38,6 +38,14 @@ def has_commit():
     return subprocess.run(words, cwd=TOP, capture_output=True, check=False).returncode == 0
 
 
+def shared_files():
+    """The files of the folders whose files are installed beside the documents, but for tests. None without git."""
+    if not shutil.which("git") or not has_commit():
+        return []
+    listed = called("git", "ls-files", "watching", "recipes", "clients", cwd=TOP).decode().splitlines()
+    return [it for it in listed if "/tests/" not in it and "/." not in it and not it.endswith("_test.go")]
+
+
 def put(path, text):
     with open(path, "w", encoding="utf-8") as it:
         it.write(text)
