@@ -52,8 +52,8 @@ pub enum Route {
     Config,
     /// The metrics, `/metrics`.
     Metrics,
-    /// The members that are alive as targets of Prometheus, `/v1/prometheus`: at this port, or at that of the node's own
-    /// status server.
+    /// The members that are alive as targets of Prometheus, `/v1/prometheus`: at this port, or at that of the node's
+    /// own status server.
     Targets(Option<u16>),
 }
 

@@ -4,7 +4,8 @@
 ghost use Rattle.std.specs.Prelude.{◌≡◌, ◌≤◌, length, map, option_map, true, false, is_some};
 ghost use Rattle.std.specs.List.{list_all};
 ghost use Rattle.lg_c_values.specs.Meaning.Configs.{config_from_c, defaults_from_c, each_seed_from_c};
-ghost use Rattle.lg_c_values.specs.Meaning.Configs.{group_from_c, seed_from_c, seed_or_default, seeds_from_c, tells_seed};
+ghost use Rattle.lg_c_values.specs.Meaning.Configs.{group_from_c, seed_from_c, seed_or_default, seeds_from_c};
+ghost use Rattle.lg_c_values.specs.Meaning.Configs.{tells_seed};
 
 use crate::address::LgAddress;
 use crate::name::LgName;

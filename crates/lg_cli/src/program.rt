@@ -39,12 +39,12 @@ use std::{io, rt};
 ///
 /// `reader`, `writer` and `faults` stand for standard input, output and error. Only `answer` and `sim` read. `owned`
 /// has standard input and output too, for the threads of `node --until-input-ends` and `node --follow`
-/// ([`begin_node`]). A line that `faults` doesn't take is dropped. `node`, `check`, `members`, `status`, `watch`, `leave`
-/// and `version` alone use the machine `rt`. The first two read their file, if one is named. `node` takes sockets, a clock
-/// and threads, writes its members, and tells its end, with the statuses of [`run_bytes`]. If its file gives no bytes,
-/// or its stop flag can't be had, it isn't run, and has the status of [`begin_node`]. `check` has those of
-/// [`check_source`]. `version` reads the end of the program's own file ([`tell_version`]). The other four ask a running
-/// node, with the statuses of [`tell_answer`](lg_client::tell_answer),
+/// ([`begin_node`]). A line that `faults` doesn't take is dropped. `node`, `check`, `members`, `status`, `watch`,
+/// `leave` and `version` alone use the machine `rt`. The first two read their file, if one is named. `node` takes
+/// sockets, a clock and threads, writes its members, and tells its end, with the statuses of [`run_bytes`]. If its file
+/// gives no bytes, or its stop flag can't be had, it isn't run, and has the status of [`begin_node`]. `check` has those
+/// of [`check_source`]. `version` reads the end of the program's own file ([`tell_version`]). The other four ask a
+/// running node, with the statuses of [`tell_answer`](lg_client::tell_answer),
 /// [`watch_changes`](lg_client::watch_changes) and [`leave_node`]. The statuses of all other command lines are:
 ///
 /// - 0 if all was done. This includes help and the version, if they were asked for and written.

@@ -75,8 +75,8 @@ pub fn timeouts_run<W: Write>(
     write_text(writer, text.as_bytes())
 }
 
-/// Runs the command `version`: writes the version of the program, that of the packets, and how the program was built, by
-/// the end of its file, and nothing else.
+/// Runs the command `version`: writes the version of the program, that of the packets, and how the program was built,
+/// by the end of its file, and nothing else.
 ///
 /// The whole text is made before its first byte is written, so with [`RunFault::Memory`] nothing is written. With
 /// [`RunFault::Write`] a beginning of the text is written: none of it, a part or all. Time and memory are in proportion

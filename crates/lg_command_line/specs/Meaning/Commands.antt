@@ -135,8 +135,8 @@ abbrev pub version_app : App
 version_app = new_app (codes "version")
 
 -- The program has the commands `answer`, `order`, `timeouts`, `sim`, `node`, `check` and `init`, and `members`,
--- `status`, `watch` and `leave`, which ask a running node, and `version`. One of them has to be named. It has a version,
--- which `--version` and `-V` ask for.
+-- `status`, `watch` and `leave`, which ask a running node, and `version`. One of them has to be named. It has a
+-- version, which `--version` and `-V` ask for.
 abbrev pub lg_app : App
 lg_app =
     let lg = on_top (λ s. record s { has_version = true; subcommand_required = true }) (new_app (codes "lg")) in
