@@ -7,3 +7,4 @@ pub mod ChoiceSteps
 pub mod WindowSteps
 pub mod UnclosedLaws
 pub mod SeatCounts
+pub mod CuttingLaws

@@ -1,18 +1,18 @@
 //! The value under the lock: a history, the detector that is after its events, and the feed that publishes them.
 //!
 //! Defined in: `specs/Meaning/Calls.antt`, `specs/Meaning/Values.antt`, `lg_history/specs/Meaning/Rest.antt`.
-//! Tested in: `lg_agent_tests/src/agent/rows.rt`, `lg_agent_tests/src/agent/rotating.rt`.
-ghost use Rattle.std.specs.Prelude.{◌≡◌, ◌<◌, ◌≤◌, ◌+◌, ◌⊎◌, [], ℕ, All, length, true, false, Some, None, get_or};
+//! Tested in: `lg_agent_tests/src/agent/rows.rt`.
+ghost use Rattle.std.specs.Prelude.{◌≡◌, ◌<◌, ◌≤◌, ◌⊎◌, [], length, true, false, Some, None};
 ghost use Rattle.std.specs.Prelude.{MatchResult, MatchOption, IfOk, IfErr, OnErr};
 ghost use mathlib.Core.List.{IsPrefix};
 ghost use Rattle.lg_detector.specs.Meaning.Step.{is_open_event, is_accepted, reply_after};
 ghost use Rattle.lg_detector.specs.Support.State.{State};
 ghost use Rattle.lg_history.specs.Meaning.History.{IsLegal, Answered};
 ghost use Rattle.lg_view.specs.Meaning.Views.{begins_open};
-ghost use Rattle.lg_history.specs.Meaning.Rest.{IsRest, StandsFor, AnsweredFrom, AreCut, made_by, of_seat};
+ghost use Rattle.lg_history.specs.Meaning.Rest.{IsRest, StandsFor, AnsweredFrom, AreCut, of_seat};
 ghost use Rattle.lg_agent.specs.declared.refusal.Refusal.TheVariants.{Behind, NoMemory};
 ghost use Rattle.lg_agent.specs.Meaning.Values.{own_name, own_limit, all_events, count_of};
-ghost use Rattle.lg_agent.specs.Meaning.Calls.{with_entry, refusal_of, receipt_of, IsAnswered, IsRefusal, IsRotated};
+ghost use Rattle.lg_agent.specs.Meaning.Calls.{with_entry, refusal_of, receipt_of, IsAnswered, IsRefusal};
 
 use crate::name::AgentName;
 use crate::receipt::Receipt;
@@ -27,6 +27,7 @@ use std::marker::Model;
 use std::sync::Wait;
 
 mod opening;
+mod rotating;
 
 /// The most places of an agent, each of which has one pass (this project's choice).
 pub const MAX_PLACES: usize = 32;
@@ -244,26 +245,6 @@ impl<A: AgentName> Kept<A> {
         Ok(place)
     }
 
-    /// Cuts off all stored entries: a summary of all events so far is kept instead, and they are added to the counts
-    /// of their seats. Returns how many they were. It is no event: what is published, and what each reader has seen
-    /// of it, stays as it is.
-    ///
-    /// The only refusal is [`Refusal::NoMemory`], if memory for the summary was refused. Then nothing has changed.
-    pub fn rotate(&mut self, alloc: Global) -> Result<u64, Refusal>
-        ensures rotated { IfOk result (λ n. (n ≡ length self.old.history) × IsRotated self.old self.new) }
-        ensures refused { IfErr result (λ e. (e ≡ NoMemory) × (self.new ≡ self.old)) }
-    {
-        let Ok(summary) = self.detector.summary(alloc) else {
-            return Err(Refusal::NoMemory);
-        };
-        let dropped = self.history.len();
-        count_seats(&mut self.cut, self.history.entries());
-        self.history.clear();
-        self.summary = Some(summary);
-        self.base = self.count;
-        Ok(dropped)
-    }
-
     /// Brings a reader up to date with the events of the history, which begin with what it has seen. The reader must
     /// not be ahead.
     pub fn tell(&self, look: &mut Look<A>)
@@ -354,17 +335,5 @@ impl<A: AgentName> Kept<A> {
         drop(detector);
         feed.end(rt);
         (history.into_entries(), base, summary)
-    }
-}
-
-/// Adds to the count of each seat how many of these entries it made.
-fn count_seats(counts: &mut [u64; SEATS], entries: &[Entry])
-    requires seats { All (λ x. x.seat ≤ MAX_PLACES) entries.now }
-    requires room { (seat : ℕ) → of_seat counts.old seat + length entries.now ≤ MAX_EVENTS }
-    ensures counts { (seat : ℕ) → of_seat counts.new seat ≡ of_seat counts.old seat + made_by seat entries.now }
-    ensures long { length counts.new ≡ SEATS }
-{
-    for entry in entries {
-        counts[entry.seat()] += 1;
     }
 }

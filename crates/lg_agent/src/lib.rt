@@ -12,7 +12,8 @@
 //! caller had seen. Every look answers by the member table, the timers or the length of such a list.
 //!
 //! Where to read on:
-//! - the value under the lock, and what one call does to it: `kept.rt`; how it begins: `kept/opening.rt`;
+//! - the value under the lock, and what one call does to it: `kept.rt`; how it begins: `kept/opening.rt`; how entries
+//!   are cut off: `kept/rotating.rt`, and what is handed out then: `cut_off.rt`;
 //! - a pass and its calls: `pass.rt`, its looks: `looks.rt`, what it leaves: `spent.rt`;
 //! - opening and handing out passes: `agent.rt`;
 //! - closing, and which fault it finds: `closing.rt`; what is left then: `closed.rt`.
@@ -21,6 +22,7 @@
 mod agent;
 mod closed;
 mod closing;
+mod cut_off;
 mod kept;
 mod looks;
 mod name;
@@ -32,6 +34,7 @@ mod spent;
 pub use agent::Agent;
 pub use closed::Closed;
 pub use closing::Unclosed;
+pub use cut_off::CutOff;
 pub use kept::{Kept, MAX_PLACES};
 pub use lg_detector::{NoMemory, Standing};
 pub use lg_view::Overview;

@@ -1,16 +1,19 @@
 //! A pass and its calls. Each call takes the lock once.
 //!
 //! Defined in: `specs/Meaning/Calls.antt`, `specs/Meaning/Values.antt`, `lg_packet/specs/Meaning/Reading.antt`.
-//! Tested in: `lg_agent_tests/src/agent/rows.rt`.
-ghost use Rattle.std.specs.Prelude.{◌≡◌, ◌⊎◌, Ok, Err, false, MatchResult, IfOk, IfErr, OnErr};
+//! Tested in: `lg_agent_tests/src/agent/rows.rt`, `lg_agent_tests/src/agent/cutting.rt`.
+ghost use Rattle.std.specs.Prelude.{◌≡◌, ◌⊎◌, Ok, Err, false, length, MatchResult, IfOk, IfErr, OnErr};
 ghost use Rattle.lg_packet.specs.declared.fault.Fault.{Fault as Broken};
 ghost use Rattle.lg_packet.specs.declared.packet.Packet.{Packet as Read};
 ghost use Rattle.lg_packet.specs.Meaning.Reading.{packet_of};
 ghost use Rattle.lg_detector.specs.declared.event.Event.TheVariants.{Tick, Heard, Ask, Health, Pull, Leave};
 ghost use Rattle.lg_detector.specs.Meaning.Step.{is_open_event};
 ghost use Rattle.lg_agent.specs.declared.refusal.Refusal.TheVariants.{BadPacket, NoMemory};
-ghost use Rattle.lg_agent.specs.Meaning.Calls.{receipt_of, is_page, IsCall, IsRefusal, IsBadPacket, IsRotatedPass};
+ghost use Rattle.lg_agent.specs.Meaning.Values.{nothing_cut_off};
+ghost use Rattle.lg_agent.specs.Meaning.Calls.{receipt_of, is_page, IsCall, IsRefusal, IsBadPacket};
+ghost use Rattle.lg_agent.specs.Meaning.Calls.{IsRotatedPass, IsCutOff};
 
+use crate::cut_off::CutOff;
 use crate::kept::Kept;
 use crate::name::AgentName;
 use crate::receipt::{HeardPacket, Receipt};
@@ -317,6 +320,28 @@ impl<'a, A: AgentName> Pass<'a, A> {
             (λ e. (e ≡ NoMemory) × (self.new ≡ self.old)) }
     {
         self.own.rotate(self.kept, rt, alloc)
+    }
+
+    /// Cuts the stored entries off the history as [`Pass::rotate`] does, and hands them out, with the summary and the
+    /// number of those that were cut off before. Returns how many they are. What was in `into` before is dropped first,
+    /// before the lock is taken. Under the lock nothing is freed, and no entry is copied: the list of the entries and
+    /// that of `into` are exchanged, and each keeps its memory. What was handed out is the caller's to keep or to drop;
+    /// each time one has been put behind the one before, all entries make one history.
+    ///
+    /// The only refusal is [`Refusal::NoMemory`], if memory for the summary was refused. Then nothing has changed but
+    /// that `into` is empty.
+    pub fn rotate_into<R: Wait>(
+        &mut self,
+        rt: &R,
+        alloc: Global,
+        into: &mut CutOff,
+    ) -> Result<u64, Refusal>
+        ensures rotated { IfOk result (λ _. IsRotatedPass self.old self.new) }
+        // The end of a single thread's history, with the replies of the definitions.
+        ensures handed { IfOk result (λ n. (n ≡ length into.new.entries) × IsCutOff A.places into.new) }
+        ensures refused { IfErr result (λ e. (e ≡ NoMemory) × (self.new ≡ self.old) × (into.new ≡ nothing_cut_off)) }
+    {
+        self.own.rotate_into(self.kept, rt, alloc, into)
     }
 
     /// Ends the pass, and gives what it leaves.

@@ -6,9 +6,12 @@ ghost use Rattle.std.specs.Prelude.{◌≡◌, ◌+◌, ◌≤◌, drop, length,
 ghost use Rattle.std.specs.Vec.{vec_capacity};
 ghost use Rattle.lg_detector.specs.Meaning.Step.{is_open_event};
 ghost use Rattle.lg_agent.specs.declared.refusal.Refusal.TheVariants.{NoMemory};
-ghost use Rattle.lg_agent.specs.Meaning.Calls.{with_entry, receipt_of, IsCall, IsRefusal, IsRotated, IsRotatedPass};
+ghost use Rattle.lg_agent.specs.Meaning.Values.{nothing_cut_off, handed_out};
+ghost use Rattle.lg_agent.specs.Meaning.Calls.{with_entry, receipt_of, IsCall, IsRefusal};
+ghost use Rattle.lg_agent.specs.Meaning.Calls.{IsRotated, IsRotatedPass, IsCutOff};
 ghost use Rattle.lg_agent.specs.Meaning.Closing.{below};
 
+use crate::cut_off::CutOff;
 use crate::kept::Kept;
 use crate::name::AgentName;
 use crate::refusal::Refusal;
@@ -181,12 +184,61 @@ impl<A: AgentName> Spent<A> {
     {
         let answer = kept.rotate(alloc);
         if answer.is_ok() {
-            // For the proof, as in `made`.
-            let _seen = self.look.seen();
-            let moved = cut_positions(kept.base(), &mut self.mine);
-            self.gone += moved as u64;
+            self.drop_positions(kept.base());
         }
         answer
+    }
+
+    /// Rotates, under the lock, which is taken once, and hands out what is cut off. What is handed in is emptied before
+    /// the lock is taken. Returns how many entries were cut off.
+    pub(crate) fn rotate_into<R: Wait>(
+        &mut self,
+        kept: &Mutex<Kept<A>>,
+        rt: &R,
+        alloc: Global,
+        into: &mut CutOff,
+    ) -> Result<u64, Refusal>
+        ensures rotated { IfOk result (λ _. IsRotatedPass self.old self.new) }
+        ensures handed { IfOk result (λ n. (n ≡ length into.new.entries) × IsCutOff A.places into.new) }
+        ensures refused { IfErr result (λ e. (e ≡ NoMemory) × (self.new ≡ self.old) × (into.new ≡ nothing_cut_off)) }
+    {
+        into.clear();
+        let mut guard = kept.lock(rt);
+        let answer = self.rotate_in_into(&mut guard, alloc, into);
+        MutexGuard::unlock(guard);
+        answer
+    }
+
+    /// Rotates the value under the lock, and hands out what is cut off. If it is refused, neither the pass nor the
+    /// value nor what is handed in has changed.
+    fn rotate_in_into(
+        &mut self,
+        kept: &mut Kept<A>,
+        alloc: Global,
+        into: &mut CutOff,
+    ) -> Result<u64, Refusal>
+        requires { into.old ≡ nothing_cut_off }
+        ensures pass { IfOk result (λ _. IsRotatedPass self.old self.new) }
+        ensures history { IfOk result (λ n. (n ≡ length kept.old.history) × IsRotated kept.old kept.new) }
+        ensures handed { IfOk result (λ _. (into.new ≡ handed_out kept.old) × IsCutOff A.places into.new) }
+        ensures refused { IfErr result (λ e. (e ≡ NoMemory)
+            × (self.new ≡ self.old) × (kept.new ≡ kept.old) × (into.new ≡ into.old)) }
+    {
+        let answer = kept.rotate_into(alloc, into);
+        if answer.is_ok() {
+            self.drop_positions(kept.base());
+        }
+        answer
+    }
+
+    /// Drops the positions of its calls that are below the base, and keeps their number.
+    fn drop_positions(&mut self, base: u64)
+        ensures { IsRotatedPass self.old self.new }
+    {
+        // For the proof, as in `made`.
+        let _seen = self.look.seen();
+        let moved = cut_positions(base, &mut self.mine);
+        self.gone += moved as u64;
     }
 }
 

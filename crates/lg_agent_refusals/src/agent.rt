@@ -1,9 +1,9 @@
 //! Agents with one pass: each call and look that is refused memory has changed nothing, and goes well the next time.
 ghost use Rattle.std.specs.Prelude.{◌≡◌};
 
-use Call::{Ack, Ask, Health, Leave, Members, Ping, Pull, Rotate, Tick, Version};
+use Call::{Ack, Ask, Health, Leave, Members, Ping, Pull, Rotate, RotateInto, Tick, Version};
 use arrayvec::ArrayVec;
-use lg_agent::{Agent, AgentName, Closed, Pass, Refusal, Spent, Unclosed};
+use lg_agent::{Agent, AgentName, Closed, CutOff, Pass, Refusal, Spent, Unclosed};
 use lg_packet::{Body, encode};
 use lg_rules::Claim;
 use lg_testing::{ack, alive, at, letter, local, packet, ping};
@@ -31,6 +31,8 @@ enum Call {
     Leave(u64),
     /// The stored entries are cut off.
     Rotate,
+    /// They are cut off and handed out.
+    RotateInto,
     Version,
     Members,
 }
@@ -55,6 +57,23 @@ fn heard<A: AgentName, R: Wait>(
     Ok(receipt.place)
 }
 
+/// How many entries a rotation hands out. `NoPlace` if it answers another number. If it is refused, nothing may be
+/// handed out.
+fn handed_out<A: AgentName, R: Wait>(
+    rt: &R,
+    alloc: Global,
+    pass: &mut Pass<'_, A>,
+) -> Result<u64, Refusal> {
+    let mut into = CutOff::new(alloc);
+    let answer = pass.rotate_into(rt, alloc, &mut into);
+    let handed = into.entries().len() as u64;
+    match answer {
+        Ok(count) if count == handed => Ok(count),
+        Err(refusal) if handed == 0 && into.before().is_none() => Err(refusal),
+        _ => Err(Refusal::NoPlace),
+    }
+}
+
 /// Makes a call.
 fn make<A: AgentName, R: Wait>(
     rt: &R,
@@ -71,6 +90,7 @@ fn make<A: AgentName, R: Wait>(
         Pull(now) => Ok(pass.pull(rt, alloc, at(now), local(7001))?.place),
         Leave(now) => Ok(pass.leave(rt, alloc, at(now), [0; 8])?.place),
         Rotate => pass.rotate(rt, alloc),
+        RotateInto => handed_out(rt, alloc, pass),
         Version => pass.version(),
         Members => Ok(pass.members(alloc)?.len() as u64),
     }
@@ -235,6 +255,24 @@ const FILLS_IT: Case = Case {
     ],
 };
 
+/// The same, where what is cut off is handed out.
+const HANDS_OUT: Case = Case {
+    limit: 3,
+    others: 0,
+    rows: &[
+        (Health(1), Ok(1)),
+        (Health(2), Ok(2)),
+        (Health(3), Err(Refusal::HistoryFull(3))),
+        (RotateInto, Ok(3)),
+        (Health(3), Ok(3)),
+        (RotateInto, Ok(1)),
+        (RotateInto, Ok(0)),
+        (Health(4), Ok(4)),
+        (Version, Ok(5)),
+        (Members, Ok(1)),
+    ],
+};
+
 /// How many entries there are in the end of a case, and how many of them were cut off.
 fn counted<R: Wait>(rt: &R, alloc: Global, case: &Case) -> Option<(u64, u64)> {
     let closed = told_at_last(rt, alloc, case).ok()?;
@@ -251,6 +289,12 @@ fn goes_on_after_refused_memory(rt: HostRuntime) {
 #[test]
 fn rotates_after_refused_memory(rt: HostRuntime) {
     assert_eq!(rt; counted(&rt, rt.alloc(), &FILLS_IT), Some((4, 3)));
+}
+
+/// A rotation that was refused memory has handed nothing out, and the next one hands out all that there is.
+#[test]
+fn hands_out_after_refused_memory(rt: HostRuntime) {
+    assert_eq!(rt; counted(&rt, rt.alloc(), &HANDS_OUT), Some((5, 4)));
 }
 
 /// Three rounds, which start at the positions 1, 4 and 7. The ticks between end a round. Each word picks one of those

@@ -11,6 +11,7 @@ use crate::reply::StoredReply;
 use lg_detector::{Event, NoMemory, Reply};
 use std::alloc::Global;
 use std::marker::Model;
+use std::mem;
 
 /// An entry that waits for its reply. A contract sees it as its seat and its event.
 #[derive(Drop)]
@@ -136,6 +137,19 @@ impl History {
     {
         self.withdraw();
         self.entries.clear();
+    }
+
+    /// Exchanges the list of the entries for an empty one, which the caller hands in. The caller has then all entries,
+    /// the earliest first, and there is none here. No entry is copied or dropped, and the memory of each list stays
+    /// with it, so that a caller that hands the same list in again and again uses the memory of the two in turn. What
+    /// is prepared is dropped, as in [`History::clear`]. Allocates nothing.
+    pub fn take_into(&mut self, entries: &mut Vec<Entry>)
+        requires { entries.old.items ≡ [] }
+        ensures taken { entries.new.items ≡ self.old.entries }
+        ensures left { self.new ≡ record { entries = []; prepared = None } }
+    {
+        self.withdraw();
+        mem::swap(&mut self.entries, entries);
     }
 
     /// Adds the prepared entry, with this reply, after all others. If nothing is prepared, it changes nothing.

@@ -8,8 +8,8 @@ use Rattle.lg_detector.specs.declared.reply.Reply.{Reply}
 use Rattle.lg_detector.specs.Meaning.Step.{is_accepted, reply_after, most_events}
 use Rattle.lg_detector.specs.Support.State.{State}
 use Rattle.lg_detector.specs.Support.Summary.{IsSummary}
-use Rattle.lg_history.specs.Meaning.History.{entry}
-use Rattle.lg_history.specs.Meaning.Rest.{made_by, of_seat}
+use Rattle.lg_history.specs.Meaning.History.{entry, events, Answered}
+use Rattle.lg_history.specs.Meaning.Rest.{made_by, of_seat, IsRest, StandsFor, AnsweredFrom}
 use Rattle.lg_view.specs.Meaning.Views.{begins_open}
 use Rattle.lg_packet.specs.declared.fault.Fault.{Fault}
 use Rattle.lg_packet.specs.declared.packet.Body.{Body}
@@ -18,7 +18,7 @@ use Rattle.lg_agent.specs.declared.receipt.Receipt.{Receipt}
 use Rattle.lg_agent.specs.declared.refusal.Refusal.{Refusal}
 use Rattle.lg_agent.specs.declared.refusal.Refusal.TheVariants.{BadPacket, NoMemory, HistoryFull}
 use Rattle.lg_agent.specs.declared.refusal.Refusal.TheVariants.{Behind, NoPlace, NoView}
-use Rattle.lg_agent.specs.Meaning.Values.{KeptValue, PassValue, all_events, count_of, own_limit}
+use Rattle.lg_agent.specs.Meaning.Values.{KeptValue, PassValue, CutOffValue, all_events, count_of, own_limit}
 
 -- the ledger with one more entry: the seat's event, and the reply that the definitions give to it there
 abbrev pub with_entry : KeptValue → ℕ → Event → KeptValue
@@ -35,6 +35,20 @@ pub record IsRotated (before after : KeptValue) : Type 0 where
   pub cut : (seat : ℕ) → of_seat after.cut seat ≡ of_seat before.cut seat + made_by seat before.history
   pub places : after.places ≡ before.places
   pub limit : after.limit ≡ before.limit
+
+-- What a rotation handed out. Its entries, behind those that were cut off before, are the end of a single thread's
+-- history. The events of those before are `past`, each seat made as many of them as `cut` says, the summary is one of
+-- them, and `base` is how many they are. All events are accepted. Each reply is the one that the definitions give after
+-- all events before it, and the one that follows from the summary.
+pub record IsCutOff (places : ℕ) (c : CutOffValue) : Type 0 where
+  pub past : List Event
+  pub cut : List ℕ
+  pub rest : IsRest places past cut c.entries
+  pub before : StandsFor c.before past
+  pub base : length past ≡ c.base
+  pub accepted : is_accepted (past ++ events c.entries) ≡ true
+  pub answered : Answered past c.entries
+  pub from : (s : State) → c.before ≡ Some s → AnsweredFrom s c.entries
 
 -- Why the ledger refuses a call of a seat, if it does: there is no such seat, a detector accepts no more events, or
 -- as many entries are stored as are allowed.

@@ -1,7 +1,9 @@
--- Worked refusals and faults of closing. b is opened at 0. The first pass made a call, then the second, then the first.
-use Rattle.std.specs.Prelude.{◌≡◌, ◌≤◌, ◌+◌, ℕ, Bool, List, [], ◌∷◌, length, Some, None, if◌then◌else◌, refl}
-use Rattle.std.proofs.Common.{inl, inr, ap, arith}
-use Rattle.std.proofs.lemmas.Bool.{le-leb}
+-- Worked refusals, rotations and faults of closing. b is opened at 0. The first pass made a call, then the second, then
+-- the first.
+use Rattle.std.specs.Prelude.{◌≡◌, ◌≤◌, ◌+◌, ℕ, zero, suc, Bool, cond, if◌then◌else◌, refl}
+use Rattle.std.specs.Prelude.{List, [], ◌∷◌, length, Some, None}
+use Rattle.std.proofs.Common.{inl, inr, ap, sym, arith}
+use Rattle.std.proofs.lemmas.Bool.{le-leb, ne_eqb}
 use Rattle.std.proofs.Math.Nat.{zero-lt-suc, lt-suc_self, le_refl}
 use Rattle.std.proofs.lemmas.List.Elements.{All-nil}
 use Rattle.lg_detector.specs.declared.event.Event.TheVariants.{Health}
@@ -9,11 +11,12 @@ use Rattle.lg_detector.specs.declared.event.Event.{Event}
 use Rattle.lg_detector.specs.Meaning.Step.{most_events}
 use Rattle.lg_detector.specs.Meaning.Examples.{by_computing, b, c, opening, nothing}
 use Rattle.lg_history.specs.Meaning.History.{Entry, entry, events, positions, IsSeat, IsLegal}
-use Rattle.lg_history.specs.Meaning.Rest.{of_seat}
+use Rattle.lg_detector.specs.Support.Step.{state_after}
+use Rattle.lg_history.specs.Meaning.Rest.{of_seat, made_by}
 use Rattle.lg_agent.specs.declared.refusal.Refusal.TheVariants.{HistoryFull, NoPlace}
 use Rattle.lg_agent.specs.declared.refusal.CloseFault.TheVariants.{Missing, Foreign, Differs}
-use Rattle.lg_agent.specs.Meaning.Values.{KeptValue, PassValue, own_name}
-use Rattle.lg_agent.specs.Meaning.Calls.{refusal_of}
+use Rattle.lg_agent.specs.Meaning.Values.{KeptValue, PassValue, CutOffValue, handed_out, own_name}
+use Rattle.lg_agent.specs.Meaning.Calls.{refusal_of, IsCutOff}
 use Rattle.lg_agent.specs.Meaning.Closing.{first_difference, close_fault, IsLegalLedger, IsRefusedClosing, LacksOne}
 use Rattle.lg_agent.specs.Meaning.Closing.{IsMisplaced}
 
@@ -106,6 +109,13 @@ rotated = record {
 there_is_room_again : refusal_of rotated 2 ≡ None
 there_is_room_again = refl
 
+-- What a rotation of these two hands out. Of the second it is the one entry since the first rotation.
+all_is_handed_out : handed_out ledger ≡ record { entries = history; before = None; base = 0 }
+all_is_handed_out = refl
+
+what_came_since_is_handed_out : handed_out rotated ≡ record { entries = asked 2 ∷ []; before = None; base = 4 }
+what_came_since_is_handed_out = refl
+
 -- A pass that kept only the number of its calls, and one that still has their positions.
 abbrev counts : PassValue
 counts = record (left_by (b ∷ []) 1 []) { gone = 2 }
@@ -141,6 +151,41 @@ its_ledger_is_legal places = record {
   places_are = refl;
   rest = record { gone = []; past_is = refl; legal = it_is_legal places; counted = nobody };
   base = refl;
+}
+
+-- What rotations of it hand out: first the entry of the opening, and then nothing, behind a summary of that one.
+the_opening_is_handed_out : (places : ℕ) → IsCutOff places (handed_out (begun places))
+unfolding by_computing
+the_opening_is_handed_out places = record {
+  past = [];
+  cut = [];
+  rest = record { gone = []; past_is = refl; legal = it_is_legal places; counted = nobody };
+  before = refl;
+  base = refl;
+  accepted = refl;
+  answered = (refl, tt);
+  from = λ s is. absurd cc;
+}
+
+abbrev none_since : CutOffValue
+none_since = record { entries = []; before = Some (state_after (opening 0 ∷ [])); base = 1 }
+
+the_opening_alone : (seat : ℕ) → of_seat (1 ∷ []) seat ≡ made_by seat fresh
+the_opening_alone zero = refl
+the_opening_alone (suc seat) =
+    sym (ap (λ (b : Bool). 0 + cond b 1 0) (ne_eqb 0 (suc seat) (λ same. absurd (omega (arith, same)))))
+
+nothing_more_is_handed_out : (places : ℕ) → IsCutOff places none_since
+unfolding by_computing
+nothing_more_is_handed_out places = record {
+  past = opening 0 ∷ [];
+  cut = 1 ∷ [];
+  rest = record { gone = fresh; past_is = refl; legal = it_is_legal places; counted = the_opening_alone };
+  before = (refl, zero-lt-suc 0);
+  base = refl;
+  accepted = refl;
+  answered = tt;
+  from = λ s is. tt;
 }
 
 abbrev idle : PassValue

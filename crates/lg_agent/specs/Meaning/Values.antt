@@ -1,5 +1,5 @@
 -- What contracts see of the value under the lock, of a pass, and of an agent.
-use Rattle.std.specs.Prelude.{ℕ, ◌+◌, List, [], ◌∷◌, ◌++◌, length, Option}
+use Rattle.std.specs.Prelude.{ℕ, ◌+◌, List, [], ◌∷◌, ◌++◌, length, Option, None}
 use Rattle.lg_detector.specs.declared.event.Event.{Event}
 use Rattle.lg_detector.specs.declared.event.Event.TheVariants.{Open}
 use Rattle.lg_detector.specs.Support.State.{State}
@@ -22,6 +22,21 @@ all_events l = l.past ++ events l.history
 -- how many
 abbrev pub count_of : KeptValue → ℕ
 count_of l = length l.history + length l.past
+
+-- What a rotation hands out: the entries that it cut off, a summary of those that were cut off before, if any were, and
+-- how many these are.
+pub record CutOffValue : Type 0 where
+  pub entries : List Entry
+  pub before : Option State
+  pub base : ℕ
+
+-- what nothing was handed out to yet
+abbrev pub nothing_cut_off : CutOffValue
+nothing_cut_off = record { entries = []; before = None; base = 0 }
+
+-- what a rotation of this ledger hands out: all its entries, with the summary that it had
+abbrev pub handed_out : KeptValue → CutOffValue
+handed_out l = record { entries = l.history; before = l.summary; base = length l.past }
 
 -- A pass: the name of its agent, its seat, the events that it has seen, and the positions of its answered calls in
 -- the history. Of the first calls, whose entries were cut off, only the number is kept.

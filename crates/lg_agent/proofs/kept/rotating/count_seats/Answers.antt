@@ -4,7 +4,7 @@ use Rattle.lg_history.specs.Meaning.History.{Entry}
 use Rattle.lg_history.specs.Meaning.Rest.{made_by, of_seat}
 use Rattle.lg_agent.specs.declared.kept.TheConstants.{MAX_PLACES}
 use Rattle.lg_agent.proofs.SeatCounts.{counts_more, most_made}
-use Rattle.lg_agent.proofs.kept.count_seats.Goals as goal
+use Rattle.lg_agent.proofs.kept.rotating.count_seats.Goals as goal
 
 pub overflow_add-counts : goal.overflow_add-counts
 overflow_add-counts c =

@@ -1,7 +1,7 @@
 use Rattle.std.proofs.Common.{◌≡◌, ◌+◌, ℕ, length, take}
 use Rattle.lg_history.specs.Meaning.Rest.{made_by, of_seat}
 use Rattle.lg_agent.specs.declared.kept.TheConstants.{SEATS}
-use Rattle.lg_agent.proofs.kept.count_seats.Given as goal
+use Rattle.lg_agent.proofs.kept.rotating.count_seats.Given as goal
 
 abbrev pub invariant-loop-entry : goal.invariant-loop-entry
 invariant-loop-entry l = record {

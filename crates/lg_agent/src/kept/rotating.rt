@@ -1,0 +1,76 @@
+//! How entries are cut off: they are dropped, or handed out.
+//!
+//! Defined in: `specs/Meaning/Calls.antt`, `specs/Meaning/Values.antt`, `lg_history/specs/Meaning/Rest.antt`.
+//! Tested in: `lg_agent_tests/src/agent/rotating.rt`, `lg_agent_tests/src/agent/cutting.rt`.
+ghost use Rattle.std.specs.Prelude.{◌≡◌, ◌≤◌, ◌+◌, ℕ, All, length, IfOk, IfErr};
+ghost use Rattle.lg_history.specs.Meaning.Rest.{made_by, of_seat};
+ghost use Rattle.lg_agent.specs.declared.refusal.Refusal.TheVariants.{NoMemory};
+ghost use Rattle.lg_agent.specs.Meaning.Values.{nothing_cut_off, handed_out};
+ghost use Rattle.lg_agent.specs.Meaning.Calls.{IsRotated, IsCutOff};
+
+use super::{Kept, MAX_PLACES, SEATS};
+use crate::cut_off::CutOff;
+use crate::name::AgentName;
+use crate::refusal::Refusal;
+use lg_detector::MAX_EVENTS;
+use lg_history::Entry;
+use std::alloc::Global;
+use std::mem;
+
+impl<A: AgentName> Kept<A> {
+    /// Cuts off all stored entries: a summary of all events so far is kept instead, and they are added to the counts
+    /// of their seats. Returns how many they were. It is no event: what is published, and what each reader has seen
+    /// of it, stays as it is.
+    ///
+    /// The only refusal is [`Refusal::NoMemory`], if memory for the summary was refused. Then nothing has changed.
+    pub fn rotate(&mut self, alloc: Global) -> Result<u64, Refusal>
+        ensures rotated { IfOk result (λ n. (n ≡ length self.old.history) × IsRotated self.old self.new) }
+        ensures refused { IfErr result (λ e. (e ≡ NoMemory) × (self.new ≡ self.old)) }
+    {
+        let Ok(summary) = self.detector.summary(alloc) else {
+            return Err(Refusal::NoMemory);
+        };
+        let dropped = self.history.len();
+        count_seats(&mut self.cut, self.history.entries());
+        self.history.clear();
+        self.summary = Some(summary);
+        self.base = self.count;
+        Ok(dropped)
+    }
+
+    /// Cuts off all stored entries as [`Kept::rotate`] does, and hands them out, with the summary and the number of
+    /// those that were cut off before. No entry is copied or dropped, and no memory is freed. `into` must be as
+    /// [`CutOff::clear`] leaves it. Returns how many entries it has then.
+    ///
+    /// The only refusal is [`Refusal::NoMemory`], if memory for the summary was refused. Then nothing has changed.
+    pub fn rotate_into(&mut self, alloc: Global, into: &mut CutOff) -> Result<u64, Refusal>
+        requires { into.old ≡ nothing_cut_off }
+        ensures rotated { IfOk result (λ n. (n ≡ length self.old.history) × IsRotated self.old self.new) }
+        // All that was stored is handed out, and the summary is the one that was kept until now.
+        ensures handed { IfOk result (λ _. into.new ≡ handed_out self.old) }
+        ensures right { IfOk result (λ _. IsCutOff A.places into.new) }
+        ensures refused { IfErr result (λ e. (e ≡ NoMemory) × (self.new ≡ self.old) × (into.new ≡ into.old)) }
+    {
+        let Ok(summary) = self.detector.summary(alloc) else {
+            return Err(Refusal::NoMemory);
+        };
+        let moved = self.history.len();
+        count_seats(&mut self.cut, self.history.entries());
+        let before = mem::replace(&mut self.summary, Some(summary));
+        into.fill(&mut self.history, before, self.base);
+        self.base = self.count;
+        Ok(moved)
+    }
+}
+
+/// Adds to the count of each seat how many of these entries it made.
+fn count_seats(counts: &mut [u64; SEATS], entries: &[Entry])
+    requires seats { All (λ x. x.seat ≤ MAX_PLACES) entries.now }
+    requires room { (seat : ℕ) → of_seat counts.old seat + length entries.now ≤ MAX_EVENTS }
+    ensures counts { (seat : ℕ) → of_seat counts.new seat ≡ of_seat counts.old seat + made_by seat entries.now }
+    ensures long { length counts.new ≡ SEATS }
+{
+    for entry in entries {
+        counts[entry.seat()] += 1;
+    }
+}
