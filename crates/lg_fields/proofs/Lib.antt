@@ -1,0 +1,11 @@
+pub mod Results
+pub mod Numbers
+pub mod DigitSteps
+pub mod Texts
+pub mod PacketParts
+pub mod PacketRooms
+pub mod Pages
+pub mod Configs
+pub mod SeedLoop
+pub mod ConfigSteps
+pub mod Chunks

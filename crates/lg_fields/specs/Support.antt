@@ -1,0 +1,3 @@
+-- Definitions that only support the proofs.
+pub mod Bounds
+pub mod Scans
