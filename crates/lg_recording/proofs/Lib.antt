@@ -1,0 +1,10 @@
+pub mod FieldLaws
+pub mod Parts
+pub mod EventLaws
+pub mod ReplyLaws
+pub mod EntryLaws
+pub mod EachLoop
+pub mod Torn
+pub mod Written
+pub mod Steps
+pub mod Beginnings
