@@ -1,0 +1,4 @@
+pub mod BatchLaws
+pub mod FolderLaws
+pub mod HoldingLaws
+pub mod PieceLaws

@@ -1,0 +1,3 @@
+-- What only carries proofs.
+pub mod Pieces
+pub mod Steps
