@@ -9,7 +9,7 @@ ghost use Rattle.lg_check.specs.Meaning.Checks.{check_text, group_line, group_si
 
 use crate::lines::{
     put_address, put_group, put_group_name, put_key_file, put_leave, put_member, put_own,
-    put_server, put_start,
+    put_recording, put_server, put_start,
 };
 use lg_config::{FILE_KEYS, NODE_KEYS, NodeConfig, NodeKey};
 use lg_timing::{Config, Key};
@@ -55,7 +55,7 @@ fn put_groups(config: &Config, text: &mut String) -> Result<(), AllocError>
 /// (Lifeguard, local health aware suspicion). The forms are this project's choice.
 ///
 /// The configuration has to be checked. The only error is that memory was refused. Memory is allocated for the text,
-/// which has 32 lines.
+/// which has 34 lines.
 #[tactic(auto, unfolding(crate::specs::Meaning::Checks::check_text))]
 pub fn check_text(alloc: Global, node: &NodeConfig) -> Result<String, AllocError>
     requires { IsChecked node.now.config }
@@ -66,6 +66,7 @@ pub fn check_text(alloc: Global, node: &NodeConfig) -> Result<String, AllocError
     put_start(alloc, node, &mut text)?;
     put_members(&node.config, &FILE_KEYS, &mut text)?;
     put_owns(node, &NODE_KEYS, &mut text)?;
+    put_recording(&node.record_folder, &mut text)?;
     put_server(alloc, node, &mut text)?;
     put_leave(node.leave, &mut text)?;
     put_key_file(&node.key_file, &mut text)?;

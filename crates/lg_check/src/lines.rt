@@ -7,7 +7,7 @@ ghost use Rattle.lg_timing.specs.Meaning.Config.{IsChecked};
 ghost use Rattle.lg_check.specs.Meaning.Checks.{address_line, address_lines, bind_line, bound_line, default_mark};
 ghost use Rattle.lg_check.specs.Meaning.Checks.{group_line, key_line, unfound_bind_line};
 ghost use Rattle.lg_check.specs.Meaning.Checks.{key_file_line, listening_line, member_line, number_line, own_line};
-ghost use Rattle.lg_check.specs.Meaning.Checks.{group_name_line, leave_line, server_lines, start_lines};
+ghost use Rattle.lg_check.specs.Meaning.Checks.{group_name_line, leave_line, recording_line, server_lines, start_lines};
 ghost use Rattle.lg_check.specs.Meaning.Checks.{status_open_line, times_line};
 
 use crate::spelling::{
@@ -138,6 +138,13 @@ pub(crate) fn put_own(node: &NodeConfig, key: NodeKey, text: &mut String) -> Res
     ensures { OnOk result (string_bytes text.new ≡ string_bytes text.old ++ own_line node.now key) }
 {
     put_number(key.name(), node.own_number(key), key.row().default, text)
+}
+
+/// Appends the line of the folder of the recording to a text.
+pub(crate) fn put_recording(folder: &Option<FilePath>, text: &mut String) -> Result<(), AllocError>
+    ensures { OnOk result (string_bytes text.new ≡ string_bytes text.old ++ recording_line folder.now) }
+{
+    put_key("record", path_spelled(folder), folder.is_none(), text)
 }
 
 /// Appends the line of where the status server listens to a text.

@@ -28,10 +28,12 @@ pub mod NearestKeys
 pub mod NodeKeys
 pub mod OptionExamples
 pub mod Options
+pub mod Paths
 pub mod Quoting
 pub mod Ranges
 pub mod ReasonExamples
 pub mod Reasons
+pub mod RecordExamples
 pub mod SeedExamples
 pub mod Seeds
 pub mod Settings

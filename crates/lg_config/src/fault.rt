@@ -7,8 +7,10 @@ ghost use Rattle.lg_config.specs.Meaning.Faults.{fault_number};
 ghost use Rattle.lg_config.specs.declared.fault.ReadFault.TheVariants.{File};
 
 use crate::document::MAX_FILE;
-use crate::key_file::MAX_PATH;
-use crate::node_keys::{MAX_PULL_MS, MAX_RESOLVE_MS, MAX_STALL_MS, MIN_RESOLVE_MS};
+use crate::file_path::MAX_PATH;
+use crate::node_keys::{
+    MAX_PULL_MS, MAX_RECORD_MB, MAX_RESOLVE_MS, MAX_STALL_MS, MIN_RECORD_MB, MIN_RESOLVE_MS,
+};
 use lg_timing::ConfigFault;
 use thiserror::Error;
 
@@ -26,8 +28,8 @@ pub enum FileFault {
     /// `status`, `status_open`, `leave` and `bind` have faults of their own.
     #[error("a key is unknown or has a value of another type, or the name is missing")]
     Key,
-    /// A name, an address, a port or a seed is out of its form, or the dice are negative.
-    #[error("a name, an address, a port or a seed is out of its form, or the dice are negative")]
+    /// A name, an address, a port, a seed or the folder of the recording is out of its form, or the dice are negative.
+    #[error("a name, an address, a port, a seed or a folder is out of its form, or the dice are negative")]
     Value,
     /// `pull_ms` isn't 0 to 3,600,000.
     #[error("pull_ms has to be 0 to {most}", most = MAX_PULL_MS)]
@@ -62,10 +64,13 @@ pub enum FileFault {
     /// The member's own address is to be found, and there is no seed by which it could be.
     #[error("a member with the address auto has to have a seed")]
     Auto,
+    /// `record_mb` isn't 1 to 100,000.
+    #[error("record_mb has to be {least} to {most}", least = MIN_RECORD_MB, most = MAX_RECORD_MB)]
+    RecordMb,
 }
 
 impl FileFault {
-    /// The number of the fault: that of [`ConfigFault::number`], or 12, 13, 14, 16 to 21 or 27 to 31 for the others.
+    /// The number of the fault: that of [`ConfigFault::number`], or 12, 13, 14, 16 to 21 or 27 to 32 for the others.
     pub fn number(self) -> u8
         ensures { result ≡ fault_number self }
     {
@@ -85,6 +90,7 @@ impl FileFault {
             FileFault::Family => 29,
             FileFault::Resolve => 30,
             FileFault::Auto => 31,
+            FileFault::RecordMb => 32,
         }
     }
 }

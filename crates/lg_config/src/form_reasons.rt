@@ -8,15 +8,15 @@ ghost use Rattle.lg_config.specs.Meaning.FormReasons.{value_reason};
 ghost use Rattle.lg_config.specs.Meaning.Seeds.{shared_name};
 ghost use Rattle.lg_config.specs.Meaning.FormReasons.{address_reason, bad_seed, few_names, few_seeds_reason};
 ghost use Rattle.lg_config.specs.Meaning.FormReasons.{many_seeds_reason, name_reason, seed_reason, seeds_reason};
-ghost use Rattle.lg_config.specs.Meaning.FormReasons.{key_file_reason, key_file_text};
+ghost use Rattle.lg_config.specs.Meaning.FormReasons.{path_reason, path_text};
 
-use crate::keys::KEY_FILE;
+use crate::keys::RECORD;
 use crate::lookup::{seeds_at, text_at};
 use crate::names::shared_name;
 use crate::quoting::quoted;
 use crate::ranges::{dice_reason, port_reason};
 use crate::seeds::{first_seeds, names_among, seed_of_value};
-use crate::settings::{address_text, dice_at, ip_at, name_at, name_text, port_at};
+use crate::settings::{address_text, dice_at, folder_at, ip_at, name_at, name_text, port_at};
 use lg_rules::Name;
 use lg_timing::MAX_SEEDS;
 use std::alloc::{AllocError, Global};
@@ -62,6 +62,21 @@ fn seed_reason(alloc: Global, table: &Table) -> Result<String, AllocError>
     )
 }
 
+/// The text at a key. It is empty if the table lacks the key.
+fn path_text<'a>(table: &'a Table, key: &str) -> &'a str
+    ensures { result.now ≡ path_text key.now (table_view table.now) }
+{
+    text_at(table, key).unwrap_or("")
+}
+
+/// The reason of a text at a key that is no path.
+pub(crate) fn path_reason(alloc: Global, key: &str, table: &Table) -> Result<String, AllocError>
+    ensures { IfOk result (λ text. string_bytes text ≡ path_reason key.now (table_view table.now)) }
+{
+    let quote = quoted(alloc, path_text(table, key).as_bytes())?;
+    format!(in alloc; "{key} is {quote}, and has to have 1 to 255 bytes of printable ASCII\n")
+}
+
 /// The reason of a value that is out of its form.
 #[tactic(auto, unfolding(crate::specs::Meaning::FormReasons::value_reason))]
 pub(crate) fn value_reason(alloc: Global, table: &Table) -> Result<String, AllocError>
@@ -79,22 +94,10 @@ pub(crate) fn value_reason(alloc: Global, table: &Table) -> Result<String, Alloc
     if dice_at(table).is_none() {
         return dice_reason(alloc, table);
     }
+    if folder_at(table).is_none() {
+        return path_reason(alloc, RECORD, table);
+    }
     seed_reason(alloc, table)
-}
-
-/// The text of the path of the key file.
-fn key_file_text(table: &Table) -> &str
-    ensures { result.now ≡ key_file_text (table_view table.now) }
-{
-    text_at(table, KEY_FILE).unwrap_or("")
-}
-
-/// The reason of a path of a key file that is none.
-pub(crate) fn key_file_reason(alloc: Global, table: &Table) -> Result<String, AllocError>
-    ensures { IfOk result (λ text. string_bytes text ≡ key_file_reason (table_view table.now)) }
-{
-    let quote = quoted(alloc, key_file_text(table).as_bytes())?;
-    format!(in alloc; "key_file is {quote}, and has to have 1 to 255 bytes of printable ASCII\n")
 }
 
 /// The reason of a few seeds that don't go together, by a name that two of them have.

@@ -31,6 +31,9 @@ pub(crate) const NAME: &str = "name";
 /// The key of the members that it knows from the start.
 pub(crate) const SEEDS: &str = "seeds";
 
+/// The key of the folder of the recording.
+pub(crate) const RECORD: &str = "record";
+
 /// The key of the path of the key file.
 pub(crate) const KEY_FILE: &str = "key_file";
 
@@ -89,7 +92,7 @@ pub(crate) fn kind_of(key: &str) -> Option<Kind>
     ensures { result ≡ kind_of_key key.now }
 {
     match key {
-        "name" | "address" | "key_file" | "group" => Some(Kind::Text),
+        "name" | "address" | "record" | "key_file" | "group" => Some(Kind::Text),
         "port" | "dice" => Some(Kind::Number),
         "seeds" => Some(Kind::Texts),
         "status" | "status_open" | "leave" | "bind" => Some(Kind::Any),

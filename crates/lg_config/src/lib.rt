@@ -13,6 +13,7 @@ mod dice;
 mod document;
 mod family;
 mod fault;
+mod file_path;
 mod finding;
 mod form_reasons;
 mod given;
@@ -41,14 +42,15 @@ mod texts;
 pub use dice::own_dice;
 pub use document::MAX_FILE;
 pub use fault::{FileFault, ReadFault};
+pub use file_path::{FilePath, MAX_PATH};
 pub use given::{Given, Source};
 pub use host::{Host, HostName, MAX_HOST, Place};
-pub use key_file::{FilePath, MAX_PATH};
 pub use keys::FILE_KEYS;
 pub use nearest::KNOWN_KEYS;
 pub use node::NodeConfig;
 pub use node_keys::{
-    MAX_PULL_MS, MAX_RESOLVE_MS, MAX_STALL_MS, MIN_RESOLVE_MS, NODE_KEYS, NodeKey, NodeKeyRow,
+    MAX_PULL_MS, MAX_RECORD_MB, MAX_RESOLVE_MS, MAX_STALL_MS, MIN_RECORD_MB, MIN_RESOLVE_MS,
+    NODE_KEYS, NodeKey, NodeKeyRow,
 };
 pub use reasons::reason;
 pub use seeds::SeedPlace;

@@ -14,7 +14,7 @@ use strsim::generic_levenshtein;
 const MAX_EDITS: usize = 3;
 
 /// All known keys, in the order in which `docs/FORMATS.md` has them.
-pub const KNOWN_KEYS: [&str; 28] = [
+pub const KNOWN_KEYS: [&str; 30] = [
     "name",
     "address",
     "port",
@@ -22,6 +22,8 @@ pub const KNOWN_KEYS: [&str; 28] = [
     "pull_ms",
     "stall_ms",
     "resolve_ms",
+    "record_mb",
+    "record",
     "status",
     "status_open",
     "leave",

@@ -14,11 +14,12 @@ use crate::bind::with_bind;
 use crate::document::table_with;
 use crate::family::unless_untold;
 use crate::fault::{FileFault, ReadFault};
+use crate::file_path::FilePath;
 use crate::finding::{unless_unfindable, with_own_ip};
 use crate::given::Given;
 use crate::group::with_group;
 use crate::host::Host;
-use crate::key_file::{FilePath, with_key_file};
+use crate::key_file::with_key_file;
 use crate::keys::are_right_keys;
 use crate::leave::with_leave;
 use crate::lookup::seeds_at;
@@ -49,6 +50,11 @@ pub struct NodeConfig {
     /// How long it is from one resolving of the hosts among the seeds to the next, in milliseconds: 1,000 to 3,600,000.
     /// If no seed is at a host, this means nothing.
     pub resolve_ms: u64,
+    /// The most that its recording takes, in units of 1,000,000 bytes: 1 to 100,000. If there is none, this means
+    /// nothing.
+    pub record_mb: u64,
+    /// The folder of its recording. None if the node records nothing.
+    pub record_folder: Option<FilePath>,
     /// Whether the member's IP address is found when the node starts. Until then it is 0.0.0.0 in the configuration.
     pub auto: bool,
     /// Where the node's status server listens. None if the node has no such server.
@@ -188,6 +194,7 @@ impl NodeConfig {
             NodeKey::PullMs => self.pull_ms,
             NodeKey::StallMs => self.stall_ms,
             NodeKey::ResolveMs => self.resolve_ms,
+            NodeKey::RecordMb => self.record_mb,
         }
     }
 
@@ -239,14 +246,15 @@ impl NodeConfig {
     /// bytes are empty.
     ///
     /// The file is TOML. Its keys are `name`, which it must have, `address`, `port`, `dice`, `seeds`, the numbers of
-    /// [`Config`] but for `first`, and those of [`NodeKey`], by the names of their fields, `status`, `status_open`,
-    /// `leave`, `bind`, `key_file` and `group`. The error is [`ReadFault::File`] with the first of these:
-    /// [`FileFault::Syntax`], [`FileFault::Key`], [`FileFault::Value`], [`FileFault::Config`], [`FileFault::Pull`],
-    /// [`FileFault::Stall`], [`FileFault::Resolve`], [`FileFault::Status`], [`FileFault::StatusOpen`],
-    /// [`FileFault::StatusNotLoopback`] and [`FileFault::KeyFile`]. A [`FileFault::Config`] whose number is greater
-    /// than that of `KeyFile` comes behind all of these, and [`FileFault::Leave`], [`FileFault::Bind`],
-    /// [`FileFault::Family`] and [`FileFault::Auto`] come last. Or the error is [`ReadFault::NoMemory`], and then
-    /// nothing is known of the file.
+    /// [`Config`] but for `first`, and those of [`NodeKey`], by the names of their fields, `record`, `status`,
+    /// `status_open`, `leave`, `bind`, `key_file` and `group`. The error is [`ReadFault::File`] with the first of
+    /// these: [`FileFault::Syntax`], [`FileFault::Key`], [`FileFault::Value`], [`FileFault::Config`],
+    /// [`FileFault::Pull`], [`FileFault::Stall`], [`FileFault::Resolve`], [`FileFault::RecordMb`],
+    /// [`FileFault::Status`], [`FileFault::StatusOpen`], [`FileFault::StatusNotLoopback`] and
+    /// [`FileFault::KeyFile`]. A [`FileFault::Config`]
+    /// whose number is greater than that of `KeyFile` comes behind all of these, and [`FileFault::Leave`],
+    /// [`FileFault::Bind`], [`FileFault::Family`] and [`FileFault::Auto`] come last. Or the error is
+    /// [`ReadFault::NoMemory`], and then nothing is known of the file.
     ///
     /// Memory is allocated for the table that both spell, and is freed again. For a file of more than
     /// [`MAX_FILE`](crate::MAX_FILE) bytes none is allocated.

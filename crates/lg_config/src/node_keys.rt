@@ -26,6 +26,12 @@ pub const MIN_RESOLVE_MS: u64 = 1000;
 /// (this project's choice).
 pub const MAX_RESOLVE_MS: u64 = 3_600_000;
 
+/// The least that a recording takes, in units of 1,000,000 bytes: 1 (this project's choice).
+pub const MIN_RECORD_MB: u64 = 1;
+
+/// The most that a recording takes, in units of 1,000,000 bytes: 100,000 (this project's choice).
+pub const MAX_RECORD_MB: u64 = 100_000;
+
 /// The key of a number of the node's own: which field of [`NodeConfig`](crate::NodeConfig) has the number.
 #[derive(Clone, Copy, Debug, PartialEq, Eq)]
 pub enum NodeKey {
@@ -35,10 +41,17 @@ pub enum NodeKey {
     StallMs,
     /// `resolve_ms`.
     ResolveMs,
+    /// `record_mb`.
+    RecordMb,
 }
 
 /// All keys of the node's own, in the order of the numbers of their faults. It is the order in which a file is judged.
-pub const NODE_KEYS: [NodeKey; 3] = [NodeKey::PullMs, NodeKey::StallMs, NodeKey::ResolveMs];
+pub const NODE_KEYS: [NodeKey; 4] = [
+    NodeKey::PullMs,
+    NodeKey::StallMs,
+    NodeKey::ResolveMs,
+    NodeKey::RecordMb,
+];
 
 /// What the table says of a key's number.
 #[derive(Clone, Copy, Debug, PartialEq, Eq)]
@@ -62,6 +75,7 @@ impl NodeKey {
             NodeKey::PullMs => "pull_ms",
             NodeKey::StallMs => "stall_ms",
             NodeKey::ResolveMs => "resolve_ms",
+            NodeKey::RecordMb => "record_mb",
         }
     }
 
@@ -87,6 +101,12 @@ impl NodeKey {
                 most: MAX_RESOLVE_MS,
                 default: 60_000,
                 fault: FileFault::Resolve,
+            },
+            NodeKey::RecordMb => NodeKeyRow {
+                least: MIN_RECORD_MB,
+                most: MAX_RECORD_MB,
+                default: 64,
+                fault: FileFault::RecordMb,
             },
         }
     }

@@ -14,10 +14,11 @@ use crate::document::{Unread, table_with};
 use crate::family::family_reason;
 use crate::fault::FileFault;
 use crate::finding::auto_reason;
-use crate::form_reasons::{key_file_reason, seeds_reason, value_reason};
+use crate::form_reasons::{path_reason, seeds_reason, value_reason};
 use crate::given::Given;
 use crate::group_reasons::group_reason;
 use crate::key_reasons::key_reason;
+use crate::keys::KEY_FILE;
 use crate::leave_reasons::leave_reason;
 use crate::lookup::seeds_at;
 use crate::node_keys::NodeKey;
@@ -76,12 +77,13 @@ fn reason_of(alloc: Global, fault: FileFault, table: &Table) -> Result<String, A
         FileFault::Status => status_reason(alloc, table),
         FileFault::StatusOpen => open_reason(alloc, table),
         FileFault::StatusNotLoopback => loopback_reason(alloc, table),
-        FileFault::KeyFile => key_file_reason(alloc, table),
+        FileFault::KeyFile => path_reason(alloc, KEY_FILE, table),
         FileFault::Leave => leave_reason(alloc, table),
         FileFault::Bind => bind_reason(alloc, table),
         FileFault::Family => family_reason(alloc, table),
         FileFault::Resolve => own_reason(alloc, NodeKey::ResolveMs, table),
         FileFault::Auto => String::from_str(alloc, auto_reason()),
+        FileFault::RecordMb => own_reason(alloc, NodeKey::RecordMb, table),
     }
 }
 

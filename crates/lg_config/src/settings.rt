@@ -4,12 +4,13 @@
 //! Tested in: `lg_command_tests/src/config.rt`, `cases/config_forms.case`.
 ghost use Rattle.std.specs.Prelude.{◌≡◌};
 ghost use Rattle.toml.specs.View.{table_view};
-ghost use Rattle.lg_config.specs.Meaning.Settings.{addr_in, address_text, dice_in, name_in, name_text};
+ghost use Rattle.lg_config.specs.Meaning.Settings.{addr_in, address_text, dice_in, folder_in, name_in, name_text};
 ghost use Rattle.lg_config.specs.Meaning.Settings.{ip_of_member, is_auto, own_number_in, port_of_member, settings_of};
 ghost use Rattle.lg_config.specs.Meaning.Settings.{with_keys, with_numbers};
 
 use crate::dice::own_dice;
-use crate::keys::{FILE_KEYS, NAME};
+use crate::file_path::FilePath;
+use crate::keys::{FILE_KEYS, NAME, RECORD};
 use crate::lookup::{integer_at, number_at, seeds_at, text_at};
 use crate::node::NodeConfig;
 use crate::node_keys::NodeKey;
@@ -97,6 +98,17 @@ pub(crate) fn dice_at(table: &Table) -> Option<Option<u64>>
     }
 }
 
+/// The folder of the recording, if the table names one. The outer None says that its text is no path.
+#[tactic(auto, unfolding(crate::specs::Meaning::Settings::folder_in))]
+pub(crate) fn folder_at(table: &Table) -> Option<Option<FilePath>>
+    ensures { result ≡ folder_in (table_view table.now) }
+{
+    match text_at(table, RECORD) {
+        Some(text) => Some(Some(FilePath::of(text)?)),
+        None => Some(None),
+    }
+}
+
 /// A configuration with the numbers that a table gives for some keys. It has its own numbers for the other keys, and
 /// for the keys that the table lacks.
 fn with_keys(table: &Table, keys: &[Key], usual: Config) -> Config
@@ -134,6 +146,7 @@ pub(crate) fn settings_in(table: &Table) -> Option<NodeConfig>
     let name = name_at(table)?;
     let addr = addr_at(table)?;
     let dice = dice_at(table)?;
+    let record_folder = folder_at(table)?;
     let seeds = first_seeds(seeds_at(table))?;
     let dice = dice.unwrap_or(own_dice(&name, &addr));
     let config = with_numbers(table, Config::new(name, addr));
@@ -148,6 +161,8 @@ pub(crate) fn settings_in(table: &Table) -> Option<NodeConfig>
         pull_ms: own_number_at(table, NodeKey::PullMs),
         stall_ms: own_number_at(table, NodeKey::StallMs),
         resolve_ms: own_number_at(table, NodeKey::ResolveMs),
+        record_mb: own_number_at(table, NodeKey::RecordMb),
+        record_folder,
         auto: is_auto(table),
         status: None,
         status_open: false,

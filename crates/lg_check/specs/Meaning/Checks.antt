@@ -77,6 +77,10 @@ member_line c key = number_line (key_name key) (number_of_key key c) (row_of key
 abbrev pub own_line : NodeConfig → NodeKey → List ℕ
 own_line node key = number_line (node_key_name key) (own_number key node) (node_row_of key).default
 
+-- the line of the folder of the recording
+abbrev pub recording_line : Option (List ℕ) → List ℕ
+recording_line folder = key_line (codes "record") (path_spelled folder) (is_none folder)
+
 -- the lines of the status server: where it listens, and whether that may be an address that isn't loopback
 abbrev pub listening_line : Option Addr → List ℕ
 listening_line status = key_line (codes "status") (status_spelled status) (is_none status)
@@ -120,5 +124,6 @@ unfoldable pub check_text : NodeConfig → List ℕ
 check_text node =
     address_lines node ++ start_lines node
     ++ flat_map (member_line node.config) file_keys ++ flat_map (own_line node) node_keys
-    ++ server_lines node ++ leave_line node.leave ++ key_file_line node.key_file ++ group_name_line node.config.group
+    ++ recording_line node.record_folder ++ server_lines node ++ leave_line node.leave
+    ++ key_file_line node.key_file ++ group_name_line node.config.group
     ++ flat_map (group_line node.config) group_sizes

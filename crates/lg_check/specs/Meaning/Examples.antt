@@ -11,10 +11,10 @@ use Rattle.lg_timing.specs.Meaning.Timeouts.{range_of, timeout_of}
 use Rattle.sha2.specs.Sha256.{compress, digest_bytes, first_words, hash_after, rounds, schedule, sha256}
 use Rattle.lg_config.specs.declared.host.Place.TheVariants as place
 use Rattle.lg_config.specs.declared.node.NodeConfig.{NodeConfig}
-use Rattle.lg_config.specs.declared.node_keys.NodeKey.TheVariants.{PullMs, ResolveMs, StallMs}
+use Rattle.lg_config.specs.declared.node_keys.NodeKey.TheVariants.{PullMs, RecordMb, ResolveMs, StallMs}
 use Rattle.lg_config.specs.Meaning.Dice.{own_dice}
 use Rattle.lg_check.specs.Meaning.Checks.{key_file_line, address_lines, group_line, member_line, own_line, server_lines}
-use Rattle.lg_check.specs.Meaning.Checks.{bind_line, group_name_line, leave_line, start_lines}
+use Rattle.lg_check.specs.Meaning.Checks.{bind_line, group_name_line, leave_line, recording_line, start_lines}
 use Rattle.lg_check.specs.Meaning.Spelling.{seeds_spelled}
 
 -- what the rows have to unfold
@@ -37,6 +37,8 @@ usual =
       pull_ms = 30000;
       stall_ms = 100;
       resolve_ms = 60000;
+      record_mb = 64;
+      record_folder = None;
       auto = false;
       status = None;
       status_open = false;
@@ -171,6 +173,18 @@ default-stall = refl
 default-resolving : own_line usual ResolveMs ≡ codes "resolve_ms = 60000 (default)\n"
 unfolding on_checks
 default-resolving = refl
+
+default-recording :
+    own_line usual RecordMb ++ recording_line usual.record_folder
+    ≡ codes "record_mb = 64 (default)\nrecord = none (default)\n"
+unfolding on_checks
+default-recording = refl
+
+recorded :
+    own_line (record usual { record_mb = 1000 }) RecordMb ++ recording_line (Some (codes "/var/lib/lg"))
+    ≡ codes "record_mb = 1000\nrecord = /var/lib/lg\n"
+unfolding on_checks
+recorded = refl
 
 no-server : server_lines usual ≡ codes "status = none (default)\nstatus_open = false (default)\n"
 unfolding on_checks

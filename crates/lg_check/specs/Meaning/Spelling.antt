@@ -42,7 +42,7 @@ abbrev pub status_spelled : Option Addr → List ℕ
 status_spelled None = codes "none"
 status_spelled (Some addr) = addr_text addr
 
--- the path of a file, or the word for no file
+-- the path of a file or a folder, or the word for none
 abbrev pub path_spelled : Option (List ℕ) → List ℕ
 path_spelled None = codes "none"
 path_spelled (Some path) = path

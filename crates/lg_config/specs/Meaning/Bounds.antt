@@ -21,6 +21,13 @@ least_resolve_ms = 1000
 abbrev pub most_resolve_ms : ℕ
 most_resolve_ms = 3600000
 
+-- the least and the most that a recording takes, in units of 1,000,000 bytes
+abbrev pub least_record_mb : ℕ
+least_record_mb = 1
+
+abbrev pub most_record_mb : ℕ
+most_record_mb = 100000
+
 -- the most bytes of the name of a host: those of a name in DNS, without its length bytes (RFC 1035, section 2.3.4)
 abbrev pub most_host_bytes : ℕ
 most_host_bytes = 253

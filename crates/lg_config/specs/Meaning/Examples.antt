@@ -16,9 +16,9 @@ use Rattle.lg_config.specs.declared.host.Place.TheVariants as place
 use Rattle.lg_config.specs.declared.node.NodeConfig.{NodeConfig}
 use Rattle.lg_config.specs.Meaning.Answer.{answer_of, answer_with}
 use Rattle.lg_config.specs.Meaning.Dice.{own_dice}
-use Rattle.lg_config.specs.Meaning.KeyFiles.{path_of}
 use Rattle.lg_config.specs.Meaning.Keys.{file_key_named, kind_of_key}
-use Rattle.lg_config.specs.Meaning.Settings.{addr_in, dice_in, name_in, settings_of, with_numbers}
+use Rattle.lg_config.specs.Meaning.Paths.{path_of}
+use Rattle.lg_config.specs.Meaning.Settings.{addr_in, dice_in, folder_in, name_in, settings_of, with_numbers}
 use Rattle.lg_text.specs.Meaning.AddressExamples.{on_addresses}
 use Rattle.lg_config.specs.Meaning.Texts.{before, behind, octets_of, address_of, place_of, place_with_port}
 use Rattle.lg_config.specs.Meaning.Texts.{seed_of_text}
@@ -33,8 +33,8 @@ unfolding kind_of_key file_key_named
 on_keys = tt
 
 unfoldable pub on_files : ⊤
-unfolding toml_on_literals on_texts answer_of answer_with on_keys settings_of name_in addr_in dice_in with_numbers
-    check_of
+unfolding toml_on_literals on_texts answer_of answer_with on_keys settings_of name_in addr_in dice_in folder_in
+    with_numbers check_of
 on_files = tt
 
 -- a file of the member b that also has these lines
@@ -58,6 +58,8 @@ usual-with config =
       pull_ms = 30000;
       stall_ms = 100;
       resolve_ms = 60000;
+      record_mb = 64;
+      record_folder = None;
       auto = false;
       status = None;
       status_open = false;
@@ -95,7 +97,7 @@ abbrev told : List ℕ
 told = codes "forget_ms = 86400000\ngossip_ms = 0\ngossip_to = 8\ngroup = \"grn\"\n"
 
 abbrev owned : List ℕ
-owned = codes "pull_ms = 0\nstall_ms = 60000\nresolve_ms = 3600000\n"
+owned = codes "pull_ms = 0\nstall_ms = 60000\nresolve_ms = 3600000\nrecord_mb = 100000\nrecord = \"/var/lib/lg\"\n"
 
 abbrev served : List ℕ
 served = codes "status = \"10.0.0.7:8946\"\nstatus_open = true\nleave = \"off\"\n"
@@ -126,6 +128,8 @@ all-keys :
       pull_ms = 0;
       stall_ms = 60000;
       resolve_ms = 3600000;
+      record_mb = 100000;
+      record_folder = Some (codes "/var/lib/lg");
       auto = false;
       status = Some record { ip = V4 (10 ∷ 0 ∷ 0 ∷ 7 ∷ []); port = 8946 };
       status_open = true;

@@ -4,7 +4,7 @@ use Rattle.lg_timing.specs.Meaning.Keys.{config_fault_number}
 use Rattle.lg_config.specs.declared.fault.FileFault.{FileFault}
 use Rattle.lg_config.specs.declared.fault.FileFault.TheVariants.{Auto, Bind, Config, Family, Syntax, Key, Value, Pull}
 use Rattle.lg_config.specs.declared.fault.FileFault.TheVariants.{Status, StatusOpen, StatusNotLoopback, KeyFile, Leave}
-use Rattle.lg_config.specs.declared.fault.FileFault.TheVariants.{Resolve, Stall}
+use Rattle.lg_config.specs.declared.fault.FileFault.TheVariants.{RecordMb, Resolve, Stall}
 
 abbrev pub fault_number : FileFault → ℕ
 fault_number (Config fault) = config_fault_number fault
@@ -22,3 +22,4 @@ fault_number Bind = 28
 fault_number Family = 29
 fault_number Resolve = 30
 fault_number Auto = 31
+fault_number RecordMb = 32

@@ -7,7 +7,7 @@ use Rattle.lg_timing.specs.Meaning.Bounds.{most_seeds}
 use Rattle.lg_config.specs.Meaning.Quoting.{quoted}
 use Rattle.lg_config.specs.Meaning.Ranges.{dice_reason, port_reason}
 use Rattle.lg_config.specs.Meaning.Seeds.{seed_names, shared_name}
-use Rattle.lg_config.specs.Meaning.Settings.{address_text, dice_in, ip_of_member, name_in, name_text}
+use Rattle.lg_config.specs.Meaning.Settings.{address_text, dice_in, folder_in, ip_of_member, name_in, name_text}
 use Rattle.lg_config.specs.Meaning.Settings.{first_seeds, item_count, port_of_member, seed_of_value, seeds_at, text_at}
 
 -- the first text of an array that is no seed; it is empty if each is one
@@ -32,23 +32,25 @@ seed_reason members =
     codes "the seed " ++ (quoted (bad_seed (seeds_at members))
     ++ codes " has to be NAME@A.B.C.D:PORT, A.B.C.D:PORT or A.B.C.D, no leading zeros, IPv6 or a host\n")
 
--- the reason of a value that is out of its form: the first of the name, the address, the port, the dice and the seeds
+-- the text at a key, and the reason of one that is no path
+abbrev pub path_text : List ℕ → Members → List ℕ
+path_text key members = unwrap_or (text_at key members) []
+
+abbrev pub path_reason : List ℕ → Members → List ℕ
+path_reason key members =
+    key ++ (codes " is " ++ (quoted (path_text key members)
+    ++ codes ", and has to have 1 to 255 bytes of printable ASCII\n"))
+
+-- the reason of a value that is out of its form: the first of the name, the address, the port, the dice, the folder of
+-- the recording and the seeds
 unfoldable pub value_reason : Members → List ℕ
 value_reason members =
     if is_none (name_in members) then name_reason members
     else if is_none (ip_of_member members) then address_reason members
     else if is_none (port_of_member members) then port_reason members
     else if is_none (dice_in members) then dice_reason members
+    else if is_none (folder_in members) then path_reason (codes "record") members
     else seed_reason members
-
--- the text of the path of the key file, and the reason of one that is none
-abbrev pub key_file_text : Members → List ℕ
-key_file_text members = unwrap_or (text_at (codes "key_file") members) []
-
-abbrev pub key_file_reason : Members → List ℕ
-key_file_reason members =
-    codes "key_file is "
-    ++ (quoted (key_file_text members) ++ codes ", and has to have 1 to 255 bytes of printable ASCII\n")
 
 -- the reason of a few seeds that don't go together, by a name that two of them have
 abbrev pub few_seeds_reason : Option (List ℕ) → List ℕ

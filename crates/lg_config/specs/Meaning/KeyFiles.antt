@@ -1,27 +1,13 @@
 -- The file that has the keys of a node's group: its path (this project's choice). What the file says is defined in
 -- `lg_seal`.
-use Rattle.std.specs.Prelude.{ℕ, Bool, ◌&&◌, List, length, codes, Option, Some, None, ok_or, Result, Ok, Err}
-use Rattle.std.specs.Prelude.{if◌then◌else◌}
-use Rattle.std.specs.List.{list_all}
+use Rattle.std.specs.Prelude.{ℕ, List, codes, Option, Some, None, ok_or, Result, Ok, Err}
 use Rattle.std.specs.Option.{option_map}
 use Rattle.toml.specs.Data.{Members}
-use Rattle.lg_timing.specs.Meaning.Keys.{is_within}
 use Rattle.lg_config.specs.declared.fault.FileFault.{FileFault}
 use Rattle.lg_config.specs.declared.fault.FileFault.TheVariants as fault
 use Rattle.lg_config.specs.declared.node.NodeConfig.{NodeConfig}
-use Rattle.lg_config.specs.Meaning.Bounds.{most_path_bytes}
+use Rattle.lg_config.specs.Meaning.Paths.{path_of}
 use Rattle.lg_config.specs.Meaning.Settings.{text_at}
-
--- whether a byte may stand in a path: it is printable ASCII, so that a terminal takes it for nothing else
-abbrev pub is_path_byte : ℕ → Bool
-is_path_byte b = is_within 32 126 b
-
--- the path that a text is; None if it has no bytes, too many, or one that may not stand in a path
-abbrev pub is_path : List ℕ → Bool
-is_path text = is_within 1 most_path_bytes (length text) && list_all is_path_byte text
-
-abbrev pub path_of : List ℕ → Option (List ℕ)
-path_of text = if is_path text then Some text else None
 
 -- the path at the key of the file, by the text there; there is no such file if the key is missing
 abbrev pub key_file_of : Option (List ℕ) → Result (Option (List ℕ)) FileFault

@@ -14,7 +14,7 @@ use Rattle.lg_config.specs.declared.keys.Kind.TheVariants.{Text, Number, Texts, 
 
 -- the keys whose value is a text
 abbrev pub text_keys : List (List ℕ)
-text_keys = codes "name" ∷ codes "address" ∷ codes "key_file" ∷ codes "group" ∷ []
+text_keys = codes "name" ∷ codes "address" ∷ codes "record" ∷ codes "key_file" ∷ codes "group" ∷ []
 
 -- the keys whose value is a whole number, besides those of the member's numbers and the node's own
 abbrev pub number_keys : List (List ℕ)

@@ -11,7 +11,8 @@ abbrev pub known_keys : List (List ℕ)
 known_keys =
     codes "name" ∷ codes "address" ∷ codes "port" ∷ codes "dice"
     ∷ (map node_key_name node_keys
-    ++ (any_keys ++ (codes "key_file" ∷ codes "group" ∷ texts_key ∷ map key_name file_keys)))
+    ++ (codes "record"
+    ∷ (any_keys ++ (codes "key_file" ∷ codes "group" ∷ texts_key ∷ map key_name file_keys))))
 
 -- how many edits lead from one key to another: a byte is put in, taken out, or changed into another
 unfoldable pub edits : List ℕ → List ℕ → ℕ

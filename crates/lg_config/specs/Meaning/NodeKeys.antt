@@ -6,19 +6,21 @@ use Rattle.lg_timing.specs.Meaning.Keys.{is_within}
 use Rattle.lg_config.specs.declared.fault.FileFault.TheVariants as fault
 use Rattle.lg_config.specs.declared.node.NodeConfig.{NodeConfig}
 use Rattle.lg_config.specs.declared.node_keys.NodeKey.{NodeKey}
-use Rattle.lg_config.specs.declared.node_keys.NodeKey.TheVariants.{PullMs, ResolveMs, StallMs}
+use Rattle.lg_config.specs.declared.node_keys.NodeKey.TheVariants.{PullMs, RecordMb, ResolveMs, StallMs}
 use Rattle.lg_config.specs.declared.node_keys.NodeKeyRow.{NodeKeyRow}
-use Rattle.lg_config.specs.Meaning.Bounds.{least_resolve_ms, most_pull_ms, most_resolve_ms, most_stall_ms}
+use Rattle.lg_config.specs.Meaning.Bounds.{least_record_mb, least_resolve_ms, most_pull_ms, most_record_mb}
+use Rattle.lg_config.specs.Meaning.Bounds.{most_resolve_ms, most_stall_ms}
 
 -- the keys, in the order in which their numbers are judged, behind those of the member
 abbrev pub node_keys : List NodeKey
-node_keys = PullMs ∷ StallMs ∷ ResolveMs ∷ []
+node_keys = PullMs ∷ StallMs ∷ ResolveMs ∷ RecordMb ∷ []
 
 -- a key's name
 abbrev pub node_key_name : NodeKey → List ℕ
 node_key_name PullMs = codes "pull_ms"
 node_key_name StallMs = codes "stall_ms"
 node_key_name ResolveMs = codes "resolve_ms"
+node_key_name RecordMb = codes "record_mb"
 
 -- a key's range, default and fault
 abbrev pub node_row_of : NodeKey → NodeKeyRow
@@ -26,12 +28,14 @@ node_row_of PullMs = record { least = 0; most = most_pull_ms; default = 30000; f
 node_row_of StallMs = record { least = 0; most = most_stall_ms; default = 100; fault = fault.Stall }
 node_row_of ResolveMs =
     record { least = least_resolve_ms; most = most_resolve_ms; default = 60000; fault = fault.Resolve }
+node_row_of RecordMb = record { least = least_record_mb; most = most_record_mb; default = 64; fault = fault.RecordMb }
 
 -- the number of a key
 abbrev pub own_number : NodeKey → NodeConfig → ℕ
 own_number PullMs node = node.pull_ms
 own_number StallMs node = node.stall_ms
 own_number ResolveMs node = node.resolve_ms
+own_number RecordMb node = node.record_mb
 
 -- whether a number is in a key's range
 abbrev pub allows_own : NodeKey → ℕ → Bool

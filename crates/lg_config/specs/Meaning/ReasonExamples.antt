@@ -20,7 +20,7 @@ use Rattle.lg_config.specs.Meaning.NearestKeys.{edits, fewest_edits, first_at, k
 use Rattle.lg_config.specs.Meaning.NearestKeys.{nearest_key, nearest_of}
 use Rattle.lg_config.specs.Meaning.Quoting.{quoted}
 use Rattle.lg_config.specs.Meaning.Reasons.{reason_of, IsReason}
-use Rattle.lg_config.specs.Meaning.Settings.{addr_in, dice_in, name_in, settings_of, with_numbers}
+use Rattle.lg_config.specs.Meaning.Settings.{addr_in, dice_in, folder_in, name_in, settings_of, with_numbers}
 use Rattle.lg_text.specs.Meaning.AddressExamples.{on_addresses}
 use Rattle.lg_config.specs.Meaning.Texts.{before, behind, octets_of, address_of, address_with_port, place_of}
 use Rattle.lg_config.specs.Meaning.Texts.{place_with_port, seed_of_text}
@@ -36,7 +36,7 @@ unfolding kind_of_key file_key_named
 on_keys = tt
 
 unfoldable on_answers : ⊤
-unfolding on_texts answer_of answer_with on_keys settings_of name_in addr_in dice_in with_numbers check_of
+unfolding on_texts answer_of answer_with on_keys settings_of name_in addr_in dice_in folder_in with_numbers check_of
 on_answers = tt
 
 unfoldable on_nearest : ⊤
@@ -102,6 +102,17 @@ often-resolving :
     said (codes "resolve_ms = 999") ≡ Some (codes "resolve_ms is 999, and has to be from 1000 to 3600000\n")
 unfolding on_reasons
 often-resolving = refl
+
+large-recording :
+    said (codes "record_mb = 100001") ≡ Some (codes "record_mb is 100001, and has to be from 1 to 100000\n")
+unfolding on_reasons
+large-recording = refl
+
+folder-without-bytes :
+    said (codes "record = \"\"")
+    ≡ Some (codes "record is \"\", and has to have 1 to 255 bytes of printable ASCII\n")
+unfolding on_reasons
+folder-without-bytes = refl
 
 port-65536 : said (codes "port = 65536") ≡ Some (codes "port is 65536, and has to be from 1 to 65535\n")
 unfolding on_reasons

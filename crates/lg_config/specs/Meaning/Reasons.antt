@@ -12,13 +12,13 @@ use Rattle.lg_timing.specs.declared.keys.Key.{Key}
 use Rattle.lg_timing.specs.Meaning.Keys.{config_fault_number, keys, row_of}
 use Rattle.lg_config.specs.declared.fault.FileFault.{FileFault}
 use Rattle.lg_config.specs.declared.fault.FileFault.TheVariants as fault
-use Rattle.lg_config.specs.declared.node_keys.NodeKey.TheVariants.{PullMs, ResolveMs, StallMs}
+use Rattle.lg_config.specs.declared.node_keys.NodeKey.TheVariants.{PullMs, RecordMb, ResolveMs, StallMs}
 use Rattle.lg_config.specs.Meaning.Answer.{document_with}
 use Rattle.lg_config.specs.Meaning.BindReasons.{bind_reason}
 use Rattle.lg_config.specs.Meaning.Bounds.{most_bytes}
 use Rattle.lg_config.specs.Meaning.Families.{family_reason}
 use Rattle.lg_config.specs.Meaning.Finding.{auto_reason}
-use Rattle.lg_config.specs.Meaning.FormReasons.{key_file_reason, seeds_reason, value_reason}
+use Rattle.lg_config.specs.Meaning.FormReasons.{path_reason, seeds_reason, value_reason}
 use Rattle.lg_config.specs.Meaning.GroupReasons.{group_reason}
 use Rattle.lg_config.specs.Meaning.KeyReasons.{key_reason}
 use Rattle.lg_config.specs.Meaning.LeaveReasons.{leave_reason}
@@ -52,12 +52,13 @@ reason_of fault.Stall members = own_reason StallMs members
 reason_of fault.Status members = status_reason members
 reason_of fault.StatusOpen members = open_reason members
 reason_of fault.StatusNotLoopback members = loopback_reason members
-reason_of fault.KeyFile members = key_file_reason members
+reason_of fault.KeyFile members = path_reason (codes "key_file") members
 reason_of fault.Leave members = leave_reason members
 reason_of fault.Bind members = bind_reason members
 reason_of fault.Family members = family_reason members
 reason_of fault.Resolve members = own_reason ResolveMs members
 reason_of fault.Auto _ = auto_reason
+reason_of fault.RecordMb members = own_reason RecordMb members
 
 -- the number of the line at a place of a text, from 1 on
 abbrev pub line_at : ℕ → List ℕ → ℕ

@@ -16,12 +16,13 @@ use Rattle.lg_timing.specs.declared.config.Seed.{Seed}
 use Rattle.lg_timing.specs.declared.keys.Key.{Key}
 use Rattle.lg_config.specs.declared.node.NodeConfig.{NodeConfig}
 use Rattle.lg_config.specs.declared.node_keys.NodeKey.{NodeKey}
-use Rattle.lg_config.specs.declared.node_keys.NodeKey.TheVariants.{PullMs, ResolveMs, StallMs}
+use Rattle.lg_config.specs.declared.node_keys.NodeKey.TheVariants.{PullMs, RecordMb, ResolveMs, StallMs}
 use Rattle.lg_config.specs.declared.seeds.SeedPlace.{SeedPlace}
 use Rattle.lg_config.specs.Meaning.Bounds.{out_of_range, default_address, default_port}
 use Rattle.lg_config.specs.Meaning.Dice.{own_dice}
 use Rattle.lg_config.specs.Meaning.Keys.{file_keys, texts_key}
 use Rattle.lg_config.specs.Meaning.NodeKeys.{node_key_name, node_row_of}
+use Rattle.lg_config.specs.Meaning.Paths.{path_of}
 use Rattle.lg_config.specs.Meaning.Seeds.{known_seeds}
 use Rattle.lg_config.specs.Meaning.Texts.{◌>>=◌, port_among, member_name_of, seed_of_text}
 
@@ -112,6 +113,14 @@ dice_of (Some given) = option_map (λ number. Some number) (unless_negative give
 unfoldable pub dice_in : Members → Option (Option ℕ)
 dice_in members = dice_of (integer_at (codes "dice") members)
 
+-- the folder of the recording, if a document names one; its text has to be a path
+abbrev pub folder_of : Option (List ℕ) → Option (Option (List ℕ))
+folder_of None = Some None
+folder_of (Some text) = option_map (λ path. Some path) (path_of text)
+
+unfoldable pub folder_in : Members → Option (Option (List ℕ))
+folder_in members = folder_of (text_at (codes "record") members)
+
 -- a configuration with the number that a document gives for a key, and with its own number if the key is missing
 abbrev pub with_key : Key → Members → Config → Config
 with_key key members usual = with_number key (number_at_key (key_name key) (number_of_key key usual) members) usual
@@ -141,6 +150,7 @@ settings_of members = do
   name ← name_in members
   addr ← addr_in members
   dice ← dice_in members
+  folder ← folder_in members
   seeds ← first_seeds (seeds_at members)
   Some record {
     config = with_seeds (known_seeds seeds) (with_numbers members (defaults name addr));
@@ -148,6 +158,8 @@ settings_of members = do
     pull_ms = own_number_in PullMs members;
     stall_ms = own_number_in StallMs members;
     resolve_ms = own_number_in ResolveMs members;
+    record_mb = own_number_in RecordMb members;
+    record_folder = folder;
     auto = is_auto members;
     status = None;
     status_open = false;

@@ -2,7 +2,7 @@ use Rattle.std.proofs.Common.{ap, sym, ◌∙◌}
 use Rattle.std.proofs.lemmas.Bool.{false≢true}
 use Rattle.std.specs.Str.{is_utf8}
 use Rattle.lg_config.proofs.TextLaws.{no_text}
-use Rattle.lg_config.proofs.key_file.FilePath.as_str.Goals as goal
+use Rattle.lg_config.proofs.file_path.FilePath.as_str.Goals as goal
 
 -- the bytes of a path are those of a text
 pub unreachable-requires : goal.unreachable-requires

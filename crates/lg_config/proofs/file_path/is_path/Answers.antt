@@ -2,8 +2,8 @@ use Rattle.std.proofs.Common.{◌≡◌, ◌&&◌, rules, tests, ap, sym, ◌∙
 use Rattle.std.specs.List.{list_all}
 use Rattle.std.proofs.lemmas.Iterator.{YieldsList-from_slice}
 use Rattle.std.proofs.lemmas.Iterator.Search.{all_from_yields_List}
-use Rattle.lg_config.specs.Meaning.KeyFiles.{is_path_byte}
-use Rattle.lg_config.proofs.key_file.is_path.Goals as goal
+use Rattle.lg_config.specs.Meaning.Paths.{is_path_byte}
+use Rattle.lg_config.proofs.file_path.is_path.Goals as goal
 
 pub returns-then-is_within : goal.returns-then-is_within
 returns-then-is_within c =
