@@ -27,7 +27,7 @@ pub use answer::answer_to;
 pub use leave::{LEAVE_FIELD, LeaveAsked, LeaveReply, is_leave, leave_reply};
 pub use lg_changes::{Altered, Change, Changes, MAX_CHANGES};
 pub use lg_config::{Host, HostName, Place, SeedPlace};
-pub use lg_counters::{Counts, Drops};
+pub use lg_counters::{Counts, Drops, RecordedCounts};
 pub use query::MAX_WAIT_MS;
 pub use reason::RouteFault;
 pub use route::{Route, StatusKind, route_of, wait_of};

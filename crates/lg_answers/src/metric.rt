@@ -48,10 +48,18 @@ pub(crate) enum Metric {
     HistoryRotations,
     /// Calls refused.
     CallsRefused,
+    /// Entries recorded.
+    RecordedEntries,
+    /// Bytes recorded.
+    RecordedBytes,
+    /// Entries that weren't recorded.
+    RecordingLost,
+    /// Batches that weren't recorded whole.
+    RecordingFailures,
 }
 
 /// All of them, in the order in which they are shown.
-pub(crate) const METRICS: [Metric; 19] = [
+pub(crate) const METRICS: [Metric; 23] = [
     Metric::HealthScore,
     Metric::Incarnation,
     Metric::Ousted,
@@ -71,6 +79,10 @@ pub(crate) const METRICS: [Metric; 19] = [
     Metric::HistoryEntries,
     Metric::HistoryRotations,
     Metric::CallsRefused,
+    Metric::RecordedEntries,
+    Metric::RecordedBytes,
+    Metric::RecordingLost,
+    Metric::RecordingFailures,
 ];
 
 /// The value of a metric: a number, or a time in milliseconds, which is shown in seconds.
@@ -114,6 +126,10 @@ impl Metric {
             Metric::HistoryEntries => "lg_history_entries_total",
             Metric::HistoryRotations => "lg_history_rotations_total",
             Metric::CallsRefused => "lg_calls_refused_total",
+            Metric::RecordedEntries => "lg_recorded_entries_total",
+            Metric::RecordedBytes => "lg_recorded_bytes_total",
+            Metric::RecordingLost => "lg_recording_lost_entries_total",
+            Metric::RecordingFailures => "lg_recording_failures_total",
         }
     }
 
@@ -141,6 +157,10 @@ impl Metric {
             Metric::HistoryEntries => "Entries that the history took.",
             Metric::HistoryRotations => "Rotations of the history.",
             Metric::CallsRefused => "Calls that were refused.",
+            Metric::RecordedEntries => "Entries recorded.",
+            Metric::RecordedBytes => "Bytes recorded.",
+            Metric::RecordingLost => "Entries that were to be recorded and were not.",
+            Metric::RecordingFailures => "Batches of entries that were not recorded whole.",
         }
     }
 
@@ -182,6 +202,10 @@ impl Metric {
             Metric::HistoryEntries => Amount::Number(snapshot.counts.history_entries),
             Metric::HistoryRotations => Amount::Number(snapshot.counts.history_rotations),
             Metric::CallsRefused => Amount::Number(snapshot.counts.calls_refused),
+            Metric::RecordedEntries => Amount::Number(snapshot.counts.recorded.entries),
+            Metric::RecordedBytes => Amount::Number(snapshot.counts.recorded.bytes),
+            Metric::RecordingLost => Amount::Number(snapshot.counts.recorded.lost),
+            Metric::RecordingFailures => Amount::Number(snapshot.counts.recorded.failures),
         }
     }
 }

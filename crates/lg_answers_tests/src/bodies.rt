@@ -148,6 +148,10 @@ const METRICS: &[&str] = &[
     "lg_history_entries_total 120",
     "lg_history_rotations_total 121",
     "lg_calls_refused_total 122",
+    "lg_recorded_entries_total 123",
+    "lg_recorded_bytes_total 124",
+    "lg_recording_lost_entries_total 125",
+    "lg_recording_failures_total 126",
     "lg_datagrams_dropped_total{fault=\"Short\"} 0",
     "lg_datagrams_dropped_total{fault=\"Magic\"} 3",
 ];

@@ -2,7 +2,7 @@
 //! once.
 
 use lg_answers::Counts;
-use lg_counters::{Counters, Noted, Tally};
+use lg_counters::{Counters, Noted, RecordedCounts, Tally};
 use lg_packet::Fault;
 use lg_rules::Name;
 use lg_testing::at;
@@ -60,11 +60,21 @@ fn count_calls(counters: &Counters) {
     }
 }
 
+/// What a recorder has counted.
+const RECORDED: RecordedCounts = RecordedCounts {
+    entries: 7,
+    lost: 2,
+    bytes: 900,
+    failures: 1,
+};
+
 /// What two threads count at once adds up: no count of one is lost to the other.
 #[test]
 fn counts_of_two_threads_add_up(rt: HostRuntime) {
     let counters = Counters::new(Name::default(), at(0));
     join(&rt, || count_calls(&counters), || count_calls(&counters));
+    counters.note_recorded(RecordedCounts::default());
+    counters.note_recorded(RECORDED);
     let calls = 2 * CALLS;
     let want = Counts {
         received: calls,
@@ -79,6 +89,7 @@ fn counts_of_two_threads_add_up(rt: HostRuntime) {
         history_entries: calls + 1,
         history_rotations: calls,
         calls_refused: calls,
+        recorded: RECORDED,
     };
     assert_eq!(rt; counters.counts(), want);
     assert_eq!(rt; counters.last_event(), 5);

@@ -2,8 +2,8 @@
 use crate::target::parts_of;
 use arrayvec::ArrayVec;
 use lg_answers::{
-    Changes, Counts, Drops, Host, HostName, MAX_CHANGES, NodeNumber, Place, SeedPlace, ShownConfig,
-    Snapshot, answer_to,
+    Changes, Counts, Drops, Host, HostName, MAX_CHANGES, NodeNumber, Place, RecordedCounts,
+    SeedPlace, ShownConfig, Snapshot, answer_to,
 };
 use lg_http::HttpAnswer;
 use lg_rules::{Addr, Name, Record, Status};
@@ -68,6 +68,12 @@ fn counts() -> Counts {
         history_entries: 120,
         history_rotations: 121,
         calls_refused: 122,
+        recorded: RecordedCounts {
+            entries: 123,
+            bytes: 124,
+            lost: 125,
+            failures: 126,
+        },
     }
 }
 

@@ -5,7 +5,7 @@
 ghost use Rattle.std.specs.Prelude.{◌≡◌, ◌<◌, [], get_or};
 ghost use Rattle.lg_counters.specs.Meaning.Faults.{AreOfFaults, fault_name, fault_names};
 
-use crate::counts::{Counts, Drops};
+use crate::counts::{Counts, Drops, RecordedCounts};
 use crate::noted::Noted;
 use lg_packet::Fault;
 use lg_rules::Name;
@@ -43,6 +43,10 @@ pub struct Counters {
     entries: AtomicU64,
     rotations: AtomicU64,
     refused: AtomicU64,
+    recorded: AtomicU64,
+    recording_lost: AtomicU64,
+    recorded_bytes: AtomicU64,
+    recording_failures: AtomicU64,
     last_event: AtomicU64,
     /// For each fault, in the order in which [`Counters::drops`] names them.
     dropped: [AtomicU64; FAULTS],
@@ -74,6 +78,10 @@ impl Counters {
             entries: AtomicU64::new(1),
             rotations: AtomicU64::new(0),
             refused: AtomicU64::new(0),
+            recorded: AtomicU64::new(0),
+            recording_lost: AtomicU64::new(0),
+            recorded_bytes: AtomicU64::new(0),
+            recording_failures: AtomicU64::new(0),
             last_event: AtomicU64::new(opened.milliseconds()),
             dropped: [
                 AtomicU64::new(0),
@@ -137,6 +145,14 @@ impl Counters {
         add(&self.rotations, 1);
     }
 
+    /// The recorder has counted so much from the start of the node on, in place of what it had counted before.
+    pub fn note_recorded(&self, counts: RecordedCounts) {
+        self.recorded.store(counts.entries, Relaxed);
+        self.recording_lost.store(counts.lost, Relaxed);
+        self.recorded_bytes.store(counts.bytes, Relaxed);
+        self.recording_failures.store(counts.failures, Relaxed);
+    }
+
     /// A call was answered at this moment, which makes one entry of the history. Each part of what it counts is added
     /// by itself.
     pub fn note(&self, now: Moment, noted: &Noted) {
@@ -168,6 +184,12 @@ impl Counters {
             history_entries: self.entries.load(Relaxed),
             history_rotations: self.rotations.load(Relaxed),
             calls_refused: self.refused.load(Relaxed),
+            recorded: RecordedCounts {
+                entries: self.recorded.load(Relaxed),
+                lost: self.recording_lost.load(Relaxed),
+                bytes: self.recorded_bytes.load(Relaxed),
+                failures: self.recording_failures.load(Relaxed),
+            },
         }
     }
 

@@ -12,6 +12,19 @@ pub struct Drops {
     pub count: u64,
 }
 
+/// What the recorder of a node counts from its start on. Without one all are 0.
+#[derive(Clone, Copy, Debug, Default, PartialEq, Eq)]
+pub struct RecordedCounts {
+    /// Entries that were written.
+    pub entries: u64,
+    /// Entries that were cut off and not written.
+    pub lost: u64,
+    /// Bytes that were written.
+    pub bytes: u64,
+    /// Batches of entries that weren't written whole.
+    pub failures: u64,
+}
+
 /// What a node counts from its start on.
 #[derive(Clone, Copy, Debug, Default, PartialEq, Eq)]
 pub struct Counts {
@@ -39,4 +52,6 @@ pub struct Counts {
     pub history_rotations: u64,
     /// Calls that were refused.
     pub calls_refused: u64,
+    /// What was recorded.
+    pub recorded: RecordedCounts,
 }

@@ -10,6 +10,6 @@ mod noted;
 mod tally;
 
 pub use counters::{Counters, FAULTS};
-pub use counts::{Counts, Drops};
+pub use counts::{Counts, Drops, RecordedCounts};
 pub use noted::Noted;
 pub use tally::Tally;

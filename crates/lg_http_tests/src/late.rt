@@ -14,8 +14,8 @@ struct Row {
     sent: &'static [u8],
     /// What it sends 2.5 s later.
     more: &'static [u8],
-    /// How many bytes it reads in each step.
-    reads: usize,
+    /// How many bytes it reads for each millisecond that has passed, however long a step takes.
+    reads: u64,
     sees: Sees,
 }
 
@@ -92,7 +92,7 @@ const ROWS: &[Row] = &[
     Row {
         sent: b"GET /large HTTP/1.1\r\nHost: a\r\nConnection: close\r\n\r\n",
         more: b"",
-        reads: 96 * 1024,
+        reads: 2 * 1024,
         sees: Sees::Large,
     },
     // A long poll waits on.
@@ -105,7 +105,7 @@ const ROWS: &[Row] = &[
 ];
 
 /// How many steps the clients take at most.
-const STEPS: u64 = 130;
+const STEPS: u64 = 200;
 
 /// How long a step takes at least, in milliseconds.
 const STEP_MS: u64 = 50;
@@ -113,8 +113,9 @@ const STEP_MS: u64 = 50;
 /// After how many milliseconds the clients send more.
 const MORE_MS: u64 = 2_500;
 
-/// How many milliseconds the steps take together.
-const ALL_MS: u64 = 6_500;
+/// How many milliseconds the steps take together: twice the time that the server gives, since it may be late on a busy
+/// machine.
+const ALL_MS: u64 = 10_000;
 
 /// A client.
 #[derive(Drop)]
@@ -144,13 +145,19 @@ impl Client {
     }
 }
 
-/// What the clients do in a step.
-fn go_on(place: &Place<'_>, clients: &mut Vec<Client>, has_more: bool) -> io::Result<()> {
+/// What the clients do in a step, at which so many milliseconds have passed.
+fn go_on(
+    place: &Place<'_>,
+    clients: &mut Vec<Client>,
+    has_more: bool,
+    passed: u64,
+) -> io::Result<()> {
     for (client, row) in clients.iter_mut().zip(ROWS) {
         if has_more {
             client.stream.write_all(row.more)?;
         }
-        client.read_on(place, row.reads)?;
+        let due = row.reads.saturating_mul(passed) as usize;
+        client.read_on(place, due.saturating_sub(client.got))?;
     }
     Ok(())
 }
@@ -182,7 +189,7 @@ pub(crate) fn ask<R: Net<Stream = TcpStream> + rt::Clock>(
             break;
         }
         let has_more = !has_sent && passed >= MORE_MS;
-        go_on(place, &mut clients, has_more)?;
+        go_on(place, &mut clients, has_more, passed)?;
         has_sent |= has_more;
     }
     have_seen(place, &mut clients)

@@ -13,14 +13,16 @@ unwatched false before after held holds held' holds' (Some end) is watched = wat
 unwatched false before after held holds held' holds' None is watched = watched
 
 -- nothing is said of the bytes of a writer
-pub unfollowed : (config : Config) (settings : Settings) (until : ℕ) (held holds held' holds' : Option (List ℕ)) (e : NodeEnd) → settings.follow ≡ false
-    → IsRun config settings until held holds e → IsRun config settings until held' holds' e
-unfollowed config settings until held holds held' holds' e is run = record {
+pub unfollowed : (config : Config) (settings : Settings) (until : ℕ) (held holds held' holds' : Option (List ℕ)) (records : Bool) (e : NodeEnd) → settings.follow ≡ false
+    → IsRun config settings until held holds records e → IsRun config settings until held' holds' records e
+unfollowed config settings until held holds held' holds' records e is run = record {
   start = run.start;
   receiver = run.receiver;
   ticker = run.ticker;
   reader = run.reader;
   status = run.status;
+  recorder = run.recorder;
+  recorded = run.recorded;
   worked =
       record {
         hears = run.worked.hears;

@@ -35,6 +35,8 @@ where
     /// The pass that has asked the seeds.
     pub(crate) asker: Pass<'p, A>,
     pub(crate) server: ServerSide<'p, 'n, 's, 'r, A, R>,
+    /// The recorder's pass.
+    pub(crate) recorder: Pass<'p, A>,
     pub(crate) unsent: u64,
 }
 
@@ -55,7 +57,7 @@ where
         → All (λ seen. seen ≡ Open start setup.now.config.now ∷ []) agent.old.told
         → IfOk result (λ r. HasBegun setup.now.config.now setup.now.settings.now start
         (line [] (failures_of r.sides.receiver.link)) (line [] (failures_of r.sides.ticker.link))
-        r.sides.receiver.pass r.sides.ticker.pass r.asker r.server.pass r.unsent) }
+        r.sides.receiver.pass r.sides.ticker.pass r.asker r.server.pass r.recorder r.unsent) }
     ensures plan { IfOk result (λ r. r.sides.plan
         ≡ plan_of setup.now.config.now setup.now.settings.now.seeds.items setup.now.settings.now.learns
         setup.now.settings.now.pull_ms setup.now.until) }
@@ -85,6 +87,7 @@ where
         ticker,
         asker,
         status,
+        recorder,
     } = passes;
     let sides = Sides::of(
         setup.loops,
@@ -109,6 +112,7 @@ where
         sides,
         asker,
         server,
+        recorder,
         unsent,
     })
 }
@@ -125,7 +129,7 @@ fn link_of<'n, 's, 'c, O>(counters: &'c Counters, setup: &Setup<'n, 's, O>) -> N
     )
 }
 
-/// The four passes of a node.
+/// The five passes of a node.
 #[derive(Drop)]
 struct Passes<'a, A: AgentName> {
     receiver: Pass<'a, A>,
@@ -134,6 +138,8 @@ struct Passes<'a, A: AgentName> {
     asker: Pass<'a, A>,
     /// It looks for the status server.
     status: Pass<'a, A>,
+    /// It rotates for the recorder.
+    recorder: Pass<'a, A>,
 }
 
 /// The passes of a fresh agent, or none if memory was refused.
@@ -143,29 +149,32 @@ fn passes_of<'a, A: AgentName>(alloc: Global, agent: &'a mut Agent<A>) -> Option
         → All (λ seen. seen ≡ Open start config ∷ []) agent.old.told
         → IfSome result (λ passes. (passes.receiver ≡ fresh_own config start 1)
         × (passes.ticker ≡ fresh_own config start 2) × (passes.asker ≡ fresh_own config start 3)
-        × (passes.status ≡ fresh_own config start 4)) }
+        × (passes.status ≡ fresh_own config start 4) × (passes.recorder ≡ fresh_own config start 5)) }
 {
     let Ok(passes) = agent.passes(alloc) else {
         return None;
     };
     let mut passes = passes;
+    let recorder = passes.pop();
     let status = passes.pop();
     let asker = passes.pop();
     let ticker = passes.pop();
     let receiver = passes.pop();
     drop(passes);
-    match (receiver, ticker, asker, status) {
-        (Some(receiver), Some(ticker), Some(asker), Some(status)) => Some(Passes {
+    match (receiver, ticker, asker, status, recorder) {
+        (Some(receiver), Some(ticker), Some(asker), Some(status), Some(recorder)) => Some(Passes {
             receiver,
             ticker,
             asker,
             status,
+            recorder,
         }),
-        (receiver, ticker, asker, status) => {
+        (receiver, ticker, asker, status, recorder) => {
             drop(receiver);
             drop(ticker);
             drop(asker);
             drop(status);
+            drop(recorder);
             None
         }
     }

@@ -1,5 +1,5 @@
-//! The threads of a node, whatever they do beside the ticking loop: the work of the receiving loop, of a watcher and of
-//! a status server.
+//! The threads of a node, whatever they do beside the ticking loop: the work of the receiving loop, of a watcher, of a
+//! status server and of a recorder.
 //!
 //! This work is a type parameter each, since the checker looks through all types that a thread is handed, and those of
 //! a pass lead to the whole agent.
@@ -30,6 +30,9 @@ fn tell_ended<R: Wait, C>(shared: &Shared<'_, R, C>, signal: Option<&Signal>) {
     if let Some(signal) = signal {
         signal.stop();
     }
+    if let Some(recorder) = shared.recorder {
+        recorder.end(shared.rt);
+    }
 }
 
 /// What the ticking loop gives back if the receiving one has no thread, so that nobody would hear for it.
@@ -58,7 +61,7 @@ where
 
 /// What was done side by side.
 #[derive(Drop)]
-pub(crate) struct Done<E, F, T, U> {
+pub(crate) struct Done<E, F, T, U, Q> {
     /// What the receiving loop's work gave.
     pub(crate) received: E,
     /// Whether a thread could be started for it. If not, it was done once it was told that the loops are over.
@@ -69,23 +72,26 @@ pub(crate) struct Done<E, F, T, U> {
     pub(crate) watched: T,
     /// What the status server's work gave.
     pub(crate) served: U,
+    /// What the recorder's work gave.
+    pub(crate) recorded: Q,
 }
 
 /// Runs the ticking loop in this thread, and does the other work beside it, each piece in a thread of its own. All are
-/// of one scope. The watcher's and the server's are started first, if they are wanted. When both loops have ended,
-/// those who look are told so. The watcher's and the server's work, if no thread is wanted or could be started for it,
-/// is done here after that.
+/// of one scope. The watcher's, the server's and the recorder's are started first, if they are wanted. When both loops
+/// have ended, those who look are told so, and so is the recorder. The work of these three, if no thread is wanted or
+/// could be started for it, is done here after that.
 ///
 /// If no thread can be started for the receiving loop, the flag that the loops are over is set first, its work is done
 /// here, and the ticking loop makes no turn.
-pub(crate) fn tick_beside<A, O, R, L, C, Y, E, V, T, X, U>(
+pub(crate) fn tick_beside<A, O, R, L, C, Y, E, V, T, X, U, Z, Q>(
     shared: &Shared<'_, R, C>,
     signal: Option<&Signal>,
     ticks: Ticks<'_, L, A, O>,
     receiving: Y,
     watching: V,
     serving: X,
-) -> Done<E, Ended<L, A>, T, U>
+    recording: Z,
+) -> Done<E, Ended<L, A>, T, U, Q>
 where
     A: AgentName + Send + Sync,
     O: TickingLoop + Copy,
@@ -98,10 +104,13 @@ where
     T: Send + Drop,
     X: Work<U> + Send + Drop,
     U: Send + Drop,
+    Z: Work<Q> + Send + Drop,
+    Q: Send + Drop,
     requires bound { shared.now.bound ≤ MAX_TURNS }
     requires receives { Y.needs receiving }
     requires watches { V.needs watching }
     requires serves { X.needs serving }
+    requires records { Z.needs recording }
     ensures received { Y.gives receiving result.received }
     ensures heard { result.had_thread ≡ true → Ticking DrawsEight ticks.entry.dice ticks.entry.plan L.tells
         shared.now.bound shared.now.endless (line (L.log ticks.entry.side.link) (L.failed ticks.entry.side.link))
@@ -113,14 +122,15 @@ where
         result.ticked.spent result.ticked.end }
     ensures watched { V.gives watching result.watched }
     ensures served { X.gives serving result.served }
+    ensures recorded { Z.gives recording result.recorded }
 {
     let (side, dice, plan) = (ticks.side, ticks.dice, ticks.plan);
     thread::scope(
         thread::scope_env(),
         shared.rt,
-        move |scope| -> Done<E, Ended<L, A>, T, U>
+        move |scope| -> Done<E, Ended<L, A>, T, U, Q>
             requires bound { shared.now.bound ≤ MAX_TURNS }
-            requires work { Y.needs receiving × V.needs watching × X.needs serving }
+            requires work { Y.needs receiving × V.needs watching × X.needs serving × Z.needs recording }
             ensures received { Y.gives receiving result.received }
             ensures heard { result.had_thread ≡ true → Ticking DrawsEight dice plan L.tells shared.entry.now.bound
                 shared.entry.now.endless (line (L.log side.entry.link) (L.failed side.entry.link))
@@ -131,9 +141,11 @@ where
                 (L.failed result.ticked.link)) side.entry.pass result.ticked.spent result.ticked.end }
             ensures watched { V.gives watching result.watched }
             ensures served { X.gives serving result.served }
+            ensures recorded { Z.gives recording result.recorded }
         {
             let watching = start_if(scope, Does::of(&watching), move || watching.work());
             let serving = start_if(scope, Does::of(&serving), move || serving.work());
+            let recording = start_if(scope, Does::of(&recording), move || recording.work());
             let receiving = start_if(scope, Does::of(&receiving), move || receiving.work());
             let had_thread = receiving.0.is_ok();
             let ticked = if had_thread {
@@ -150,6 +162,7 @@ where
                 ticked,
                 watched: join_or_do(shared.rt, watching),
                 served: join_or_do(shared.rt, serving),
+                recorded: join_or_do(shared.rt, recording),
             }
         },
     )

@@ -13,7 +13,7 @@ use crate::following::WatcherLeft;
 use crate::node::NodeEnd;
 use crate::start::{Commons, PLACES};
 use crate::threads::Joined;
-use lg_agent::{Agent, AgentName, CloseFault, Closed, Refusal, Spent, Unclosed};
+use lg_agent::{Agent, AgentName, CloseFault, Closed, Pass, Refusal, Spent, Unclosed};
 use lg_follow::Watched;
 use lg_rules::Record;
 use lg_status_server::Served;
@@ -34,22 +34,23 @@ pub(crate) struct Left<A: AgentName> {
     pub(crate) ticker: Spent<A>,
     pub(crate) reader: Spent<A>,
     pub(crate) status: Spent<A>,
+    pub(crate) recorder: Spent<A>,
 }
 
 /// What the passes of a node leave, with its ends, after its threads. The members are read by the watcher's pass. The
 /// packets to the seeds that weren't sent count among the ticking loop's. The writer and the stream of faults are given
 /// back too.
-pub(crate) fn leave<'w, 'f, A: AgentName, L: Drop, W, F>(
+pub(crate) fn leave<'p, 'w, 'f, A: AgentName, L: Drop, W, F>(
     alloc: Global,
-    joined: Joined<'_, 'f, L, A, WatcherLeft<'_, 'w, A, W>, F>,
+    joined: Joined<'p, 'f, L, A, WatcherLeft<'_, 'w, A, W>, F, Pass<'p, A>>,
     unsent: u64,
 ) -> (Left<A>, (&'w mut W, &'f mut F))
-    ensures received { result.0.received ≡ joined.entry.1.1.0.end }
-    ensures ticked { record result.0.ticked { unsent = joined.entry.1.1.1.end.unsent } ≡ joined.entry.1.1.1.end }
-    ensures counted { joined.entry.1.1.1.end.unsent + unsent < 2 ^ 64
-        → result.0.ticked.unsent ≡ joined.entry.1.1.1.end.unsent + unsent }
-    ensures passes { (result.0.receiver ≡ joined.entry.1.1.0.spent) × (result.0.ticker ≡ joined.entry.1.1.1.spent)
-        × (result.0.status ≡ joined.entry.1.0.0) }
+    ensures received { result.0.received ≡ joined.entry.1.1.0.0.end }
+    ensures ticked { record result.0.ticked { unsent = joined.entry.1.1.0.1.end.unsent } ≡ joined.entry.1.1.0.1.end }
+    ensures counted { joined.entry.1.1.0.1.end.unsent + unsent < 2 ^ 64
+        → result.0.ticked.unsent ≡ joined.entry.1.1.0.1.end.unsent + unsent }
+    ensures passes { (result.0.receiver ≡ joined.entry.1.1.0.0.spent) × (result.0.ticker ≡ joined.entry.1.1.0.1.spent)
+        × (result.0.status ≡ joined.entry.1.0.0) × (result.0.recorder ≡ joined.entry.1.1.1) }
     ensures watched { result.0.watched ≡ joined.entry.0.1.1 }
     ensures served { result.0.served ≡ joined.entry.1.0.1.1 }
     ensures read { MatchResult result.0.members
@@ -58,7 +59,10 @@ pub(crate) fn leave<'w, 'f, A: AgentName, L: Drop, W, F>(
     ensures writer { result.1.0 ≡ joined.entry.0.1.0 }
     ensures faults { result.1.1 ≡ joined.entry.1.0.1.0 }
 {
-    let ((watcher, (writer, watched)), ((status, (faults, served)), (received, ticked))) = joined;
+    let (watcher, (server, (both, recorder))) = joined;
+    let (watcher, (writer, watched)) = watcher;
+    let (status, (faults, served)) = server;
+    let (received, ticked) = both;
     let mut watcher = watcher;
     let (receiver, received) = without_link(received);
     let (ticker, mut ticked) = without_link(ticked);
@@ -74,6 +78,7 @@ pub(crate) fn leave<'w, 'f, A: AgentName, L: Drop, W, F>(
         ticker,
         reader: watcher.finish(),
         status: status.finish(),
+        recorder: recorder.finish(),
     };
     (left, (writer, faults))
 }
@@ -104,8 +109,10 @@ pub(crate) fn close<A: AgentName, R: Wait + rt::Clock>(
     ensures watched { result.watched ≡ left.watched }
     ensures served { result.served ≡ left.served }
     ensures closed { MatchResult result.closed
-        (λ c. IsClosed A.places c (left.receiver ∷ left.ticker ∷ left.reader ∷ left.status ∷ []))
-        (λ f. IsRefusedClosing A.places (left.receiver ∷ left.ticker ∷ left.reader ∷ left.status ∷ []) f) }
+        (λ c. IsClosed A.places c
+        (left.receiver ∷ left.ticker ∷ left.reader ∷ left.status ∷ left.recorder ∷ []))
+        (λ f. IsRefusedClosing A.places
+        (left.receiver ∷ left.ticker ∷ left.reader ∷ left.status ∷ left.recorder ∷ []) f) }
 {
     let Left {
         received,
@@ -117,6 +124,7 @@ pub(crate) fn close<A: AgentName, R: Wait + rt::Clock>(
         ticker,
         reader,
         status,
+        recorder,
     } = left;
     let stood_still = commons.stood_still();
     drop(commons);
@@ -125,6 +133,7 @@ pub(crate) fn close<A: AgentName, R: Wait + rt::Clock>(
     spents.push_reserved(ticker);
     spents.push_reserved(reader);
     spents.push_reserved(status);
+    spents.push_reserved(recorder);
     NodeEnd {
         received,
         ticked,

@@ -1,4 +1,4 @@
-//! A node: its loops over an agent, and beside them a watcher and a status server.
+//! A node: its loops over an agent, and beside them a watcher, a status server and a recorder.
 #![tactic(auto)]
 
 mod beginning;
@@ -8,6 +8,7 @@ mod following;
 mod node;
 mod parts;
 mod receiving;
+mod recording;
 mod serving;
 mod sockets;
 mod start;
@@ -21,8 +22,8 @@ pub use lg_follow::Watched;
 pub use lg_status_server::Served;
 pub use lg_turns::{
     ChangeSignal, Counted, Dice, Ended, KeyedLink, Link, LinkFault, LoopEnd, MAX_DATAGRAM,
-    MAX_FOUND, MAX_TURNS, PcgDice, Plan, ReceivingLoop, ResolvedSeeds, SeedAsker, Shared, Side,
-    TickingLoop, UdpLink, Why,
+    MAX_FOUND, MAX_TURNS, NodeRecorder, PcgDice, Plan, ReceivingLoop, RecorderSignal,
+    ResolvedSeeds, SeedAsker, Shared, Side, TickingLoop, UdpLink, Unrecorded, Why,
 };
 pub use node::{NodeEnd, NodeFault, NodeStart, Settings, run_node};
 pub use parts::Work;

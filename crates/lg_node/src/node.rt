@@ -2,7 +2,7 @@
 //!
 //! Defined in: `specs/Meaning/Nodes.antt`.
 //! Tested in: `lg_node_tests/src/node/asking.rt`, `cases/nodes`.
-ghost use Rattle.std.specs.Prelude.{◌≡◌, false, IfOk, IfErr, OnErr};
+ghost use Rattle.std.specs.Prelude.{◌≡◌, false, is_some, IfOk, IfErr, OnErr};
 ghost use Rattle.lg_timing.specs.Meaning.Config.{IsChecked};
 ghost use Rattle.lg_node.specs.Meaning.Nodes.{IsRun, IsEarly, TellsServed};
 
@@ -18,7 +18,7 @@ use lg_seal::Keys;
 use lg_status_server::Served;
 use lg_text::FaultStream;
 use lg_timing::{Config, MAX_SEEDS, Moment};
-use lg_turns::{LoopEnd, ReceivingLoop, ResolvedSeeds, SeedAsker, TickingLoop};
+use lg_turns::{LoopEnd, NodeRecorder, ReceivingLoop, ResolvedSeeds, SeedAsker, TickingLoop};
 use lg_view::UnnamedBook;
 use std::alloc::Global;
 use std::io::{ErrorKind, Write};
@@ -123,7 +123,7 @@ pub enum NodeFault {
 /// Runs a node over UDP until a moment, in milliseconds from its start, until somebody sets the stop flag, or until one
 /// of its loops ends before that.
 ///
-/// It binds a socket to the address of the settings, opens an agent with four passes, and asks each seed for its table,
+/// It binds a socket to the address of the settings, opens an agent with five passes, and asks each seed for its table,
 /// in order. Then it runs [`join_threads`](crate::join_threads) with the steady clock
 /// ([`SteadyClock`](lg_clock::SteadyClock)), the words of [`PcgDice`](crate::PcgDice), and loops that are endless. So
 /// the ticking loop asks the seeds until a Page is heard, and again while it is alone. It asks a seed and a member in
@@ -146,6 +146,10 @@ pub enum NodeFault {
 /// and [`NodeEnd::served`] says how that ended. A server that fails ends nothing else. It is told on `faults` when it
 /// fails, before the node ends, by [`Served::line`](lg_status_server::Served::line). Nothing else is written there.
 ///
+/// If there is a recorder, it records beside the loops ([`NodeRecorder::record`]), in a thread of its own and with a
+/// pass of its own. It is told when both have ended, and records what is left then. If no thread can be started for it,
+/// it begins when they have ended.
+///
 /// A turn of the receiving loop waits a tenth of the configuration's `timeout_ms` at most, but at least 5 and at most
 /// 50 milliseconds, and at most half of the clock's stall. The ticking loop pauses until there is something to do, for
 /// a second at most; a nearer deadline and the stop flag end its pause.
@@ -159,21 +163,23 @@ pub enum NodeFault {
 /// [`NodeFault::Status`], [`NodeFault::Clock`], or [`NodeFault::Refused`] if memory was refused or there was no reader
 /// for a pass. If a seed's call was refused, it may also be [`Refusal::HistoryFull`] or [`Refusal::Behind`], but
 /// neither should ever happen.
-pub fn run_node<O, R, W, F>(
+pub fn run_node<O, R, K, W, F>(
     rt: &R,
     alloc: Global,
     start: &NodeStart<'_, O>,
+    recorder: Option<K>,
     writer: &mut W,
     faults: &mut F,
 ) -> Result<NodeEnd, NodeFault>
 where
     O: SeedAsker + TickingLoop + ReceivingLoop + Copy + Send,
     R: Wait + Threads + Net + rt::Clock + RandomSource + Sync,
+    K: NodeRecorder + Send + Drop,
     W: Write + Send,
     F: FaultStream + Send,
     requires { IsChecked start.now.config.now }
     ensures ran { IfOk result (IsRun start.now.config.now start.now.settings.now start.now.until
-        (W.contents writer.old) (W.contents writer.new)) }
+        (W.contents writer.old) (W.contents writer.new) (is_some recorder)) }
     ensures refused { IfErr result (IsEarly start.now.config.now) }
     ensures alone { start.now.settings.now.follow ≡ false → writer.new ≡ writer.old }
     ensures unwritten { OnErr result (writer.new ≡ writer.old) }
@@ -182,7 +188,10 @@ where
 {
     let sockets = match Sockets::bind(rt, alloc, start.settings) {
         Ok(sockets) => sockets,
-        Err(fault) => return Err(fault),
+        Err(fault) => {
+            drop(recorder);
+            return Err(fault);
+        }
     };
     let Sockets {
         socket,
@@ -202,7 +211,11 @@ where
     };
     let status = match status_server(rt, setup.signal, server) {
         Ok(status) => status,
-        Err(fault) => return Err(fault),
+        Err(fault) => {
+            drop(recorder);
+            return Err(fault);
+        }
     };
-    open_and_serve::<Brand, O, R, W, F>(rt, UnnamedBook::new(), &setup, status, writer, faults)
+    let book = UnnamedBook::new();
+    open_and_serve::<Brand, O, R, K, W, F>(rt, book, &setup, status, recorder, writer, faults)
 }

@@ -5,6 +5,7 @@
 //! `cases/groups`, `cases/status`.
 ghost use Rattle.std.specs.Prelude.{◌≡◌, IfErr, IfOk};
 
+use lg_turns::Unrecorded;
 use std::snapshot::Snapshot;
 use std::thread::{Promise, PromisedHandle, Scope, Threads};
 
@@ -91,4 +92,17 @@ pub(crate) fn join_or_do<R: Threads, V: Work<T>, F: FnOnce() -> T, T>(
         Ok(child) => child.join(rt),
         Err(work) => work(),
     }
+}
+
+impl Work<()> for Unrecorded {
+    ghost needs = { λ w. Unit {0} };
+
+    ghost gives = { λ w r. Unit {0} };
+
+    /// Nothing is to be recorded.
+    fn is_wanted(&self) -> bool {
+        false
+    }
+
+    fn work(self) {}
 }

@@ -1,7 +1,7 @@
 //! The start of a node, from its clock to its loops, and its end. Its sockets are bound by then.
 //!
 //! [`open_and_serve`] opens the agent ([`open_node`]) and closes it ([`close`]). Between these the passes are handed
-//! out and the seeds are asked ([`begin`]), all threads run ([`join_threads`]), and the members are read ([`leave`]).
+//! out and the seeds are asked ([`begin`]), all threads run ([`join_recorded`]), and the members are read ([`leave`]).
 //! What is let go at the end of a block is proved field by field, each time anew, and what a call takes isn't. So large
 //! values are handed to a call here, to `drop` if there is no other.
 //!
@@ -22,7 +22,7 @@ use crate::closing::{close, leave};
 use crate::following::Watching;
 use crate::node::{NodeEnd, NodeFault, Settings};
 use crate::serving::StatusServer;
-use crate::threads::join_threads;
+use crate::threads::{RecorderSide, join_recorded};
 use lg_agent::{Agent, AgentName, Refusal, Spent};
 use lg_clock::{Clock, SteadyClock};
 use lg_counters::Counters;
@@ -31,7 +31,8 @@ use lg_rules::Name;
 use lg_text::FaultStream;
 use lg_timing::{Config, Moment};
 use lg_turns::{
-    ChangeSignal, MAX_TURNS, ReceivingLoop, ResolvedSeeds, SeedAsker, Shared, TickingLoop,
+    ChangeSignal, MAX_TURNS, NodeRecorder, ReceivingLoop, RecorderSignal, ResolvedSeeds, SeedAsker,
+    Shared, TickingLoop,
 };
 use lg_view::UnnamedBook;
 use std::alloc::Global;
@@ -50,8 +51,8 @@ const MIN_STALL_MS: u64 = 25;
 const MAX_PAUSE_MS: u64 = 1000;
 
 /// How many passes a node has: one for the receiving loop, one for the ticking loop, one that asks the seeds and then
-/// watches, and one for the status server.
-pub(crate) const PLACES: usize = 4;
+/// watches, one for the status server, and one for the recorder.
+pub(crate) const PLACES: usize = 5;
 
 /// What a node is set up with, when its ticking loop ends, what stops it earlier, and its sockets.
 #[derive(Drop)]
@@ -72,11 +73,12 @@ pub(crate) struct Setup<'n, 's, O> {
 }
 
 /// Opens a node over its socket, serves until one of its loops ends, and closes it.
-pub(crate) fn open_and_serve<'s, A, O, R, W, F>(
+pub(crate) fn open_and_serve<'s, A, O, R, K, W, F>(
     rt: &R,
     book: UnnamedBook,
     setup: &Setup<'_, 's, O>,
     status: Option<StatusServer<'s, '_, R>>,
+    recorder: Option<K>,
     writer: &mut W,
     faults: &mut F,
 ) -> Result<NodeEnd, NodeFault>
@@ -84,6 +86,7 @@ where
     A: AgentName + Send + Sync,
     O: SeedAsker + TickingLoop + ReceivingLoop + Copy + Send,
     R: Wait + Threads + rt::Clock + Sync,
+    K: NodeRecorder + Send + Drop,
     W: Write + Send,
     F: FaultStream + Send,
     requires book { book.seen.book ≡ A.book }
@@ -92,7 +95,7 @@ where
     requires free { IfSome status (λ status. AreFree (slots_of status.server)) }
     requires serving { is_some status ≡ is_some setup.now.settings.now.status }
     ensures ran { IfOk result (IsRun setup.now.config.now setup.now.settings.now setup.now.until
-        (W.contents writer.old) (W.contents writer.new)) }
+        (W.contents writer.old) (W.contents writer.new) (is_some recorder)) }
     ensures refused { IfErr result (IsEarly setup.now.config.now) }
     ensures alone { setup.now.settings.now.follow ≡ false → writer.new ≡ writer.old }
     ensures unwritten { OnErr result (writer.new ≡ writer.old) }
@@ -103,6 +106,7 @@ where
         Ok(opened) => opened,
         Err(fault) => {
             drop(status);
+            drop(recorder);
             return Err(fault);
         }
     };
@@ -124,14 +128,30 @@ where
         pause_ms: MAX_PAUSE_MS,
         deadlines: setup.resolved.deadlines(),
         resolved: setup.resolved,
+        recorder: commons.signal_of(recorder.is_some()),
     };
     let ready = match begin(&shared, &mut agent, setup, status) {
         Ok(ready) => ready,
-        Err(refusal) => return Err(give_up(rt, agent, room, commons, refusal)),
+        Err(refusal) => {
+            drop(recorder);
+            return Err(give_up(rt, agent, room, commons, refusal));
+        }
     };
     let unsent = ready.unsent;
+    let recorder = RecorderSide {
+        signal: &commons.recorder,
+        pass: ready.recorder,
+        recorder,
+    };
     let watching = Watching::new(&shared, setup.settings.follow, ready.asker, writer);
-    let joined = join_threads(&shared, ready.sides, ready.server, watching, faults);
+    let joined = join_recorded(
+        &shared,
+        ready.sides,
+        ready.server,
+        watching,
+        faults,
+        recorder,
+    );
     let (left, (writer, faults)) = leave(setup.alloc, joined, unsent);
     take_back(writer);
     take_back(faults);
@@ -146,20 +166,27 @@ pub(crate) struct Commons<'r, R> {
     over: AtomicBool,
     page_heard: AtomicBool,
     changes: ChangeSignal,
+    recorder: RecorderSignal,
 }
 
 impl<'r, R: Wait + rt::Clock> Commons<'r, R> {
-    /// What a node begins with whose clock this is, at this moment, and whose member has this name.
-    fn new(clock: SteadyClock<'r, R>, name: Name, start: Moment) -> Commons<'r, R>
-        ensures { result.counters.name ≡ name }
+    /// What a node begins with whose clock this is, at this moment, and whose configuration is this.
+    fn new(clock: SteadyClock<'r, R>, config: &Config, start: Moment) -> Commons<'r, R>
+        ensures { result.counters.name ≡ config.now.name }
     {
         Commons {
             clock,
-            counters: Counters::new(name, start),
+            counters: Counters::new(config.name, start),
             over: AtomicBool::new(false),
             page_heard: AtomicBool::new(false),
             changes: ChangeSignal::new(),
+            recorder: RecorderSignal::new(config.history_limit),
         }
+    }
+
+    /// The signal of the recorder, if there is one.
+    fn signal_of(&self, records: bool) -> Option<&RecorderSignal> {
+        records.then_some(&self.recorder)
     }
 
     /// How many milliseconds the clock has left out.
@@ -198,7 +225,7 @@ fn open_node<'r, A: AgentName, O, R: Wait + rt::Clock>(
     };
     let start = clock.now();
     match open_agent::<A, O, R>(rt, setup, book, start) {
-        Ok((agent, room)) => Ok((agent, room, Commons::new(clock, setup.config.name, start))),
+        Ok((agent, room)) => Ok((agent, room, Commons::new(clock, setup.config, start))),
         Err(refusal) => {
             drop(clock);
             Err(NodeFault::Refused(refusal))

@@ -6,6 +6,7 @@
 //! watcher          ticking loop   first, if it follows      when the loops have ended, or at its     ticking loop
 //!                                                           writer's fault
 //! status server    ticking loop   then, if there is one     when the loops have ended, or it failed  ticking loop
+//! recorder         ticking loop   then, if it records       when the loops have ended                ticking loop
 //! receiving loop   ticking loop   behind these              at the ticking loop's end or a fault     ticking loop
 //! writer           the program    before, if it follows     when all is written, or at its fault     nobody
 //! reader           the program    before, if the end of     when the input has ended, or failed      nobody
@@ -14,11 +15,12 @@
 //!                                 among the seeds
 //! ```
 //!
-//! The first four are of one scope: `tick_beside` (`beside.rt`) starts and joins them, whatever they do. What a thread
-//! does is told in one place: `Watching` (`following.rt`), `Serving` (`serving.rt`), `Receiving` (`receiving.rt`) and
-//! `tick_loop` (of `lg_loops`). The last three are the program's: the writer of what a followed node tells
-//! (`lg_cli/src/output.rt`), the reader of the input whose end is to end the node (`lg_cli/src/node.rt`), and the
-//! resolver of the hosts among the seeds (`lg_resolve`, which `lg_run` starts). The end of the program cuts them off.
+//! The first five are of one scope: `tick_beside` (`beside.rt`) starts and joins them, whatever they do. What a thread
+//! does is told in one place: `Watching` (`following.rt`), `Serving` (`serving.rt`), `Recording` (`recording.rt`),
+//! `Receiving` (`receiving.rt`) and `tick_loop` (of `lg_loops`). The last three are the program's: the writer of what a
+//! followed node tells (`lg_cli/src/output.rt`), the reader of the input whose end is to end the node
+//! (`lg_cli/src/node.rt`), and the resolver of the hosts among the seeds (`lg_resolve`, which `lg_run` starts). The end
+//! of the program cuts them off.
 //!
 //! The receiving loop sets the stop flag when it ends, at which the ticking one ends, and this one sets the flag that
 //! it is over, at which the receiving one ends. So a member that leaves is still heard and answered while its ticking
@@ -31,7 +33,7 @@
 //! `cases/groups`, `cases/status`.
 ghost use Rattle.std.specs.Prelude.{◌≡◌, ◌≤◌, is_some, IfSome};
 ghost use Rattle.lg_http.specs.Meaning.Slots.{AreFree, slots_of};
-ghost use Rattle.lg_node.specs.Meaning.Nodes.{ServesIf, TellsServed};
+ghost use Rattle.lg_node.specs.Meaning.Nodes.{RecordsIf, ServesIf, TellsServed};
 ghost use Rattle.lg_turns.specs.Meaning.BothLoops.{BothRan};
 ghost use Rattle.lg_turns.specs.Meaning.Turns.{line};
 ghost use Rattle.lg_turns.specs.Meaning.Words.{DrawsEight};
@@ -40,6 +42,7 @@ use crate::beside::{Ticks, tick_beside};
 use crate::node::Settings;
 use crate::parts::Work;
 use crate::receiving::{Receiving, end_of};
+use crate::recording::Recording;
 use crate::serving::{ServerLeft, Serving, StatusServer, signal_of};
 use left_right::Absorb;
 use lg_agent::{AgentName, Pass};
@@ -48,7 +51,10 @@ use lg_detector::Event;
 use lg_http::Signal;
 use lg_text::FaultStream;
 use lg_timing::Config;
-use lg_turns::{Ended, Link, MAX_TURNS, PcgDice, Plan, ReceivingLoop, Shared, Side, TickingLoop};
+use lg_turns::{
+    Ended, Link, MAX_TURNS, NodeRecorder, PcgDice, Plan, ReceivingLoop, RecorderSignal, Shared,
+    Side, TickingLoop,
+};
 use lg_view::{Published, Update};
 use std::rt;
 use std::sync::Wait;
@@ -57,9 +63,9 @@ use std::thread::Threads;
 /// What both loops give back, the receiving one first.
 pub type Both<L, A> = (Ended<L, A>, Ended<L, A>);
 
-/// What the threads of a node give back: what the watcher's work gave, what the status server left, and what both loops
-/// gave back.
-pub type Joined<'p, 'f, L, A, T, F> = (T, (ServerLeft<'p, 'f, A, F>, Both<L, A>));
+/// What the threads of a node give back: what the watcher's work gave, what the status server left, what both loops
+/// gave back, and what the recorder's work gave.
+pub type Joined<'p, 'f, L, A, T, F, Q> = (T, (ServerLeft<'p, 'f, A, F>, (Both<L, A>, Q)));
 
 /// What both loops work with.
 #[derive(Drop)]
@@ -119,17 +125,19 @@ where
     pub server: Option<StatusServer<'s, 'r, R>>,
 }
 
-/// Runs both loops as [`join_threads`] says, with this work of the watcher and of the status server.
+/// Runs both loops as [`join_threads`] says, with this work of the watcher, of the status server and of the recorder.
 ///
-/// The caller of [`join_threads`] makes the watcher's work, [`join_threads`] makes the server's, and this function
-/// makes the receiving loop's. The checker can't prove a function that makes two of them.
-fn loops_with<A, O, R, L, C, V, T, X, U>(
+/// The caller of [`join_recorded`] makes the watcher's work, [`join_recorded`] makes the recorder's, [`join_threads`]
+/// makes the server's, and this function makes the receiving loop's. The checker can't prove a function that makes two
+/// of them.
+fn loops_with<A, O, R, L, C, V, T, X, U, Z, Q>(
     shared: &Shared<'_, R, C>,
     sides: Sides<'_, '_, L, A, O>,
     signal: Option<&Signal>,
     watching: V,
     serving: X,
-) -> (Both<L, A>, (T, U))
+    recording: Z,
+) -> (Both<L, A>, (T, (U, Q)))
 where
     A: AgentName + Send + Sync,
     O: TickingLoop + ReceivingLoop + Copy + Send,
@@ -140,11 +148,15 @@ where
     T: Send + Drop,
     X: Work<U> + Send + Drop,
     U: Send + Drop,
+    Z: Work<Q> + Send + Drop,
+    Q: Send + Drop,
     requires bound { shared.now.bound ≤ MAX_TURNS }
     requires watches { V.needs watching }
     requires serves { X.needs serving }
+    requires records { Z.needs recording }
     ensures watched { V.gives watching result.1.0 }
-    ensures served { X.gives serving result.1.1 }
+    ensures served { X.gives serving result.1.1.0 }
+    ensures recorded { Z.gives recording result.1.1.1 }
     ensures ran { BothRan shared.now.wait_ms DrawsEight sides.entry.dice sides.entry.plan L.tells shared.now.bound
         shared.now.endless (line (L.log sides.entry.receiver.link) (L.failed sides.entry.receiver.link))
         (line (L.log result.0.0.link) (L.failed result.0.0.link)) sides.entry.receiver.pass
@@ -166,30 +178,37 @@ where
         pass,
         link,
     };
-    let done = tick_beside(shared, signal, ticks, receiving, watching, serving);
+    let done = tick_beside(
+        shared, signal, ticks, receiving, watching, serving, recording,
+    );
     let received = end_of(done.received, done.had_thread);
-    ((received, done.ticked), (done.watched, done.served))
+    (
+        (received, done.ticked),
+        (done.watched, (done.served, done.recorded)),
+    )
 }
 
 /// Runs the threads of a node in a scope of their own, and waits until all have ended: the receiving loop in one of its
 /// own, and the ticking loop in this thread. If the work of a watcher is wanted ([`Watching`](crate::Watching)), it is
-/// done in a thread of its own. If there is a status server, it serves in a thread of its own, until the loops have
-/// ended. One that ends by itself is reported on `faults` when it ends.
+/// done in a thread of its own, and so is that of a recorder. If there is a status server, it serves in a thread of its
+/// own, until the loops have ended. One that ends by itself is reported on `faults` when it ends.
 ///
 /// If no thread can be started for the receiving loop, the flag that it is over is set before either loop begins. The
 /// receiving loop then ends with [`Why::Refused`](crate::Why::Refused), since memory was refused. The ticking one makes
 /// no turn and ends with [`Why::Stopped`](crate::Why::Stopped), and this member doesn't leave its group. If none can be
-/// started for the watcher, it watches when the loops have ended. A status server for which none can be started is told
-/// to stop before it begins.
+/// started for the watcher or the recorder, it does its work when the loops have ended. A status server for which none
+/// can be started is told to stop before it begins.
 ///
-/// Gives back what the watcher's work gave, what the server left, and both ends of the loops.
-pub fn join_threads<'l, 'p, 'f, A, O, R, L, C, V, T, F>(
+/// Gives back what the watcher's work gave, what the server left, both ends of the loops, and what the recorder's work
+/// gave.
+pub fn join_threads<'l, 'p, 'f, A, O, R, L, C, V, T, F, Z, Q>(
     shared: &Shared<'_, R, C>,
     sides: Sides<'l, 'l, L, A, O>,
     server: ServerSide<'p, '_, '_, '_, A, R>,
     watching: V,
     faults: &'f mut F,
-) -> Joined<'p, 'f, L, A, T, F>
+    recording: Z,
+) -> Joined<'p, 'f, L, A, T, F, Q>
 where
     A: AgentName + Send + Sync,
     O: TickingLoop + ReceivingLoop + Copy + Send,
@@ -199,22 +218,26 @@ where
     V: Work<T> + Send + Drop,
     T: Send + Drop,
     F: FaultStream + Send,
+    Z: Work<Q> + Send + Drop,
+    Q: Send + Drop,
     requires bound { shared.now.bound ≤ MAX_TURNS }
     requires watches { V.needs watching }
+    requires records { Z.needs recording }
     requires free { IfSome server.server (λ status. AreFree (slots_of status.server)) }
     requires name { shared.now.counters.now.name ≡ server.config.now.name }
     ensures watched { V.gives watching result.0 }
+    ensures recorded { Z.gives recording result.1.1.1 }
     ensures faults { result.1.0.1.0.ghost_name ≡ faults.entry.ghost_name }
     ensures served { ServesIf (is_some server.entry.server) server.entry.config.now server.entry.settings.now
         server.entry.pass result.1.0.0 result.1.0.1.1 }
     ensures told { TellsServed result.1.0.1.1 (F.reported faults.entry.now) (F.reported result.1.0.1.0.now) }
     ensures ran { BothRan shared.now.wait_ms DrawsEight sides.entry.dice sides.entry.plan L.tells shared.now.bound
         shared.now.endless (line (L.log sides.entry.receiver.link) (L.failed sides.entry.receiver.link))
-        (line (L.log result.1.1.0.link) (L.failed result.1.1.0.link)) sides.entry.receiver.pass
-        result.1.1.0.spent result.1.1.0.end
+        (line (L.log result.1.1.0.0.link) (L.failed result.1.1.0.0.link)) sides.entry.receiver.pass
+        result.1.1.0.0.spent result.1.1.0.0.end
         (line (L.log sides.entry.ticker.link) (L.failed sides.entry.ticker.link))
-        (line (L.log result.1.1.1.link) (L.failed result.1.1.1.link)) sides.entry.ticker.pass
-        result.1.1.1.spent result.1.1.1.end }
+        (line (L.log result.1.1.0.1.link) (L.failed result.1.1.0.1.link)) sides.entry.ticker.pass
+        result.1.1.0.1.spent result.1.1.0.1.end }
 {
     let signal = signal_of(&server.server);
     let serving = Serving {
@@ -225,6 +248,65 @@ where
         pass: server.pass,
         faults,
     };
-    let (both, (watched, served)) = loops_with(shared, sides, signal, watching, serving);
-    (watched, (served, both))
+    let (both, (watched, (served, recorded))) = loops_with(
+        shared, sides, signal, watching, serving, recording,
+    );
+    (watched, (served, (both, recorded)))
+}
+
+/// What a recorder works with: by what it is told that the node has ended, its pass, and the recorder, if there is one.
+#[derive(Drop)]
+pub(crate) struct RecorderSide<'p, 'x, A: AgentName, K>
+where
+    Published<A>: Absorb<Update<A>, State = [Event; 0]>,
+{
+    pub(crate) signal: &'x RecorderSignal,
+    pub(crate) pass: Pass<'p, A>,
+    pub(crate) recorder: Option<K>,
+}
+
+/// Runs the threads of a node as [`join_threads`] says, with this recorder, if there is one.
+pub(crate) fn join_recorded<'l, 'p, 'f, A, O, R, L, C, V, T, F, K>(
+    shared: &Shared<'_, R, C>,
+    sides: Sides<'l, 'l, L, A, O>,
+    server: ServerSide<'p, '_, '_, '_, A, R>,
+    watching: V,
+    faults: &'f mut F,
+    recorder: RecorderSide<'p, '_, A, K>,
+) -> Joined<'p, 'f, L, A, T, F, Pass<'p, A>>
+where
+    A: AgentName + Send + Sync,
+    O: TickingLoop + ReceivingLoop + Copy + Send,
+    R: Wait + Threads + rt::Clock + Sync,
+    L: Link + Send + Drop,
+    C: Clock + Sync,
+    V: Work<T> + Send + Drop,
+    T: Send + Drop,
+    F: FaultStream + Send,
+    K: NodeRecorder + Send + Drop,
+    requires bound { shared.now.bound ≤ MAX_TURNS }
+    requires watches { V.needs watching }
+    requires free { IfSome server.server (λ status. AreFree (slots_of status.server)) }
+    requires name { shared.now.counters.now.name ≡ server.config.now.name }
+    ensures watched { V.gives watching result.0 }
+    ensures recorded { RecordsIf (is_some recorder.entry.recorder) recorder.entry.pass result.1.1.1 }
+    ensures faults { result.1.0.1.0.ghost_name ≡ faults.entry.ghost_name }
+    ensures served { ServesIf (is_some server.entry.server) server.entry.config.now server.entry.settings.now
+        server.entry.pass result.1.0.0 result.1.0.1.1 }
+    ensures told { TellsServed result.1.0.1.1 (F.reported faults.entry.now) (F.reported result.1.0.1.0.now) }
+    ensures ran { BothRan shared.now.wait_ms DrawsEight sides.entry.dice sides.entry.plan L.tells shared.now.bound
+        shared.now.endless (line (L.log sides.entry.receiver.link) (L.failed sides.entry.receiver.link))
+        (line (L.log result.1.1.0.0.link) (L.failed result.1.1.0.0.link)) sides.entry.receiver.pass
+        result.1.1.0.0.spent result.1.1.0.0.end
+        (line (L.log sides.entry.ticker.link) (L.failed sides.entry.ticker.link))
+        (line (L.log result.1.1.0.1.link) (L.failed result.1.1.0.1.link)) sides.entry.ticker.pass
+        result.1.1.0.1.spent result.1.1.0.1.end }
+{
+    let RecorderSide {
+        signal,
+        pass,
+        recorder,
+    } = recorder;
+    let recording = Recording::new(shared, signal, recorder, pass);
+    join_threads(shared, sides, server, watching, faults, recording)
 }

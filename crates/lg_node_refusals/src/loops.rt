@@ -9,8 +9,8 @@ use lg_detector::Event;
 use lg_loops::NodeLoops;
 use lg_node::{
     Both, ChangeSignal, Counters, Ended, LoopEnd, MAX_TURNS, PcgDice, Plan, ReceivingLoop,
-    ResolvedSeeds, ServerSide, Settings, Shared, Side, Sides, StatusServer, TickingLoop, Watched,
-    Watching, join_threads,
+    ResolvedSeeds, ServerSide, Settings, Shared, Side, Sides, StatusServer, TickingLoop,
+    Unrecorded, Watched, Watching, join_threads,
 };
 use lg_rules::Name;
 use lg_testing::{Room, at, letter, local};
@@ -116,6 +116,7 @@ fn shared<'a, R, C>(
         pause_ms: WAIT_MS,
         deadlines: noted.resolved.deadlines(),
         resolved: &noted.resolved,
+        recorder: None,
     }
 }
 
@@ -318,7 +319,14 @@ where
     };
     let (mut writer, mut faults) = (Room::failing(0), Room::failing(0));
     let watching = Watching::new(&shared, follow, watcher, &mut writer);
-    let (watched, (served, both)) = join_threads(&shared, sides, server, watching, &mut faults);
+    let (watched, (served, (both, _unrecorded))) = join_threads(
+        &shared,
+        sides,
+        server,
+        watching,
+        &mut faults,
+        Unrecorded,
+    );
     let looked = Looked {
         watcher: watched.0,
         watched: watched.1.1,

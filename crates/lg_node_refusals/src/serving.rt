@@ -1,7 +1,7 @@
 //! A node with a status server, whose loops end at once.
 use arrayvec::ArrayVec;
 use lg_loops::NodeLoops;
-use lg_node::{NodeStart, ResolvedSeeds, Served, Settings, run_node};
+use lg_node::{NodeStart, ResolvedSeeds, Served, Settings, Unrecorded, run_node};
 use lg_testing::{Room, at, letter, local};
 use lg_timing::Config;
 use std::alloc::Global;
@@ -60,7 +60,7 @@ where
         stop: &stop,
         resolved: &resolved,
     };
-    let ran = run_node(rt, alloc, &start, &mut unread, faults);
+    let ran = run_node(rt, alloc, &start, None::<Unrecorded>, &mut unread, faults);
     ran.ok()?.served
 }
 

@@ -15,6 +15,7 @@ mod machine;
 mod meeting;
 mod playing;
 mod receiving;
+mod recording;
 mod resolving;
 mod rotating;
 mod ticking;

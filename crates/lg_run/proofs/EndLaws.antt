@@ -1,5 +1,5 @@
 -- What is written and told at the end of a node, by the steps to it.
-use Rattle.std.proofs.Common.{◌≡◌, ℕ, Bool, true, false, List, Option, Result, Ok, Err, IfOk, IfErr, MatchResult, OnErr, refl, ap, sym, ◌∙◌, subst}
+use Rattle.std.proofs.Common.{◌≡◌, ℕ, Bool, true, false, List, Option, is_some, Result, Ok, Err, IfOk, IfErr, MatchResult, OnErr, refl, ap, sym, ◌∙◌, subst}
 use Rattle.lg_seal.specs.declared.key.Keys.{Keys}
 use Rattle.lg_config.specs.declared.node.NodeConfig.{NodeConfig}
 use Rattle.lg_text.specs.Meaning.Reporting.{Reported, Reports}
@@ -37,7 +37,7 @@ both-as reported reports first first' second second' both same same' =
 
 -- a node that didn't follow ran, whatever bytes a writer had taken
 unfollowed-as : (n : NodeConfig) (keys : Option Keys) (until : ℕ) (held holds held' holds' : Option (List ℕ)) (e : NodeEnd) → HasRun n keys until false held holds e → HasRun n keys until false held' holds' e
-unfollowed-as n keys until held holds held' holds' e ran = unfollowed n.config (node_settings n keys false) until held holds held' holds' e refl ran
+unfollowed-as n keys until held holds held' holds' e ran = unfollowed n.config (node_settings n keys false) until held holds held' holds' (is_some n.record_folder) e refl ran
 
 -- the run of a node, by the bytes that the writer had taken in the end: after it followed nothing more is written
 pub run-written : {W : Type 0} (contents : W → Option (List ℕ)) (n : NodeConfig) (keys : Option Keys) (until : ℕ) (follow : Bool) (held : Option (List ℕ)) (between after : W) (ran : Result NodeEnd NodeFault) (written : Result (Unit {0}) RunFault)
@@ -68,15 +68,16 @@ told-meanwhile reported before after (Err fault) told untold = ap reported untol
 
 -- A node is announced and run, by what each step says: `between` is its writer, and `meanwhile` its stream for faults, when it has ended.
 pub announced-runs : {W F : Type 0} (contents : W → Option (List ℕ)) (reported : F → Reported) (before between after : W) (faults announced meanwhile faults' : F) (file : Option (List ℕ)) (n : NodeConfig) (keys : Option Keys)
-    (wished : Option ℕ) (follow : Bool) (settings : Settings) (until : ℕ) (ran : Result NodeEnd NodeFault) (written : Result (Unit {0}) RunFault) (told : Told) (status : ℕ)
-    → Announces wished follow (reported faults) (reported announced) (start_line file n) → settings ≡ node_settings n keys follow → until ≡ end_wished wished
-    → IfOk ran (IsRun n.config settings until (contents before) (contents between)) → IfErr ran (IsEarly n.config) → (settings.follow ≡ false → between ≡ before) → OnErr ran (between ≡ before)
+    (wished : Option ℕ) (follow records : Bool) (settings : Settings) (until : ℕ) (ran : Result NodeEnd NodeFault) (written : Result (Unit {0}) RunFault) (told : Told) (status : ℕ)
+    → Announces wished follow (reported faults) (reported announced) (start_line file n) → settings ≡ node_settings n keys follow → until ≡ end_wished wished → records ≡ is_some n.record_folder
+    → IfOk ran (IsRun n.config settings until (contents before) (contents between) records) → IfErr ran (IsEarly n.config) → (settings.follow ≡ false → between ≡ before) → OnErr ran (between ≡ before)
     → IfOk ran (λ e. TellsServed e.served (reported announced) (reported meanwhile)) → OnErr ran (meanwhile ≡ announced)
     → Writes between after (contents between) (contents after) (table_wished follow ran) written → told ≡ run_told ran written
     → (second : List ℕ) × IsSecond n ran second × ReportsBoth (reported meanwhile) (reported faults') (line_of told) second → status ≡ status_told told
     → RunsAnnounced before after (contents before) (contents after) (reported faults) (reported faults') file n keys wished follow status
-announced-runs contents reported before between after faults announced meanwhile faults' file n keys wished follow settings until ran written told status start set ends ok early alone unwritten served unserved wrote tells lines is =
-    let here = subst (λ s. IfOk ran (IsRun n.config s until (contents before) (contents between))) set ok in
+announced-runs contents reported before between after faults announced meanwhile faults' file n keys wished follow records settings until ran written told status start set ends kept ok early alone unwritten served unserved wrote tells lines is =
+    let so = subst (λ b. IfOk ran (IsRun n.config settings until (contents before) (contents between) b)) kept ok in
+    let here = subst (λ s. IfOk ran (IsRun n.config s until (contents before) (contents between) (is_some n.record_folder))) set so in
     let run = subst (λ end. IfOk ran (HasRun n keys end follow (contents before) (contents between))) ends here in
     let either = either-outcome (HasRun n keys (end_wished wished) follow (contents before) (contents between)) (IsEarly n.config) ran run early in
     record {

@@ -3,7 +3,7 @@
 //!
 //! Defined in: `specs/Meaning/Running.antt`, `specs/Meaning/Telling.antt`, `lg_text/specs/Meaning/Running.antt`.
 //! Tested in: `cases/node.case`, `lg_command_tests/src/launch/ends.rt`.
-ghost use Rattle.std.specs.Prelude.{◌≡◌, ◌⊎◌, ℕ, List, [], Err, OnErr, OnOk, string_bytes};
+ghost use Rattle.std.specs.Prelude.{◌≡◌, ◌⊎◌, ℕ, List, [], Err, is_some, IfOk, OnErr, OnOk, string_bytes};
 ghost use Rattle.std.specs.Option.{option_map};
 ghost use Rattle.lg_config.specs.Meaning.Options.{source_of};
 ghost use Rattle.lg_run.specs.Meaning.Running.{node_settings, table_wished, Announces, IsSecond, RunsBytes};
@@ -15,6 +15,7 @@ ghost use Rattle.lg_run.specs.Meaning.Words.{link_reason, start_line};
 use crate::configured::configured;
 use crate::first::{started_at, system_time};
 use crate::key_file::{keys_at, tell_no_keys};
+use crate::recording::{DiskRecord, RecordFolders, recorder_of};
 use crate::reporting::{tell, tell_both};
 use crate::resolving::resolved_seeds;
 use crate::telling::table_of;
@@ -60,6 +61,10 @@ use std::thread::Threads;
 /// resolve. It isn't joined, so a resolver that hangs holds up nothing. Memory or a thread that is refused for it is
 /// told by [`Told::Memory`], and nothing is run.
 ///
+/// If `record` names a folder, a thread of its own records the node there ([`NodeRecord`](lg_batches::NodeRecord)), and
+/// tells on a stream of faults of its own what isn't recorded. Memory that is refused for the path is told by
+/// [`Told::Memory`], and nothing is run.
+///
 /// A node that follows, or that no time ends, is announced by a line on `faults` before it starts: who runs where, with
 /// which file if one is named, in which version it writes its packets, and how many seeds it has. Memory that is
 /// refused for this line is told by [`Told::Memory`], and nothing is run.
@@ -83,7 +88,14 @@ pub fn run_bytes<R, W, F>(
     faults: &mut F,
 ) -> u8
 where
-    R: AllocGlobal + Wait + Threads + rt::Clock + Files + RandomSource + FaultStreams,
+    R: AllocGlobal
+        + Wait
+        + Threads
+        + rt::Clock
+        + Files
+        + RandomSource
+        + FaultStreams
+        + RecordFolders,
     R: Net<Listener = TcpListener, Stream = TcpStream> + Copy + Send + Sync + 'static,
     W: Write + Send,
     F: FaultStream + Send,
@@ -103,11 +115,12 @@ where
             return tell_no_keys(fault, faults);
         }
     };
-    let Ok(resolved) = prepare(rt, alloc, wishes, &node, faults) else {
+    let Ok(prepared) = prepare(rt, alloc, bytes, wishes, &node, faults) else {
         drop(keys);
         drop(node);
         return tell(Told::Memory, faults);
     };
+    let Prepared { resolved, recorder } = prepared;
     let settings = settings_of(&node, keys, wishes.follow);
     let start = NodeStart {
         loops: NodeLoops,
@@ -117,7 +130,7 @@ where
         stop: wishes.stop,
         resolved: &resolved,
     };
-    let ran = run_node(rt, alloc, &start, writer, faults);
+    let ran = run_node(rt, alloc, &start, recorder, writer, faults);
     let written = write_table(alloc, &ran, wishes.follow, writer);
     let status = tell_run(alloc, &node, &ran, Told::of(&ran, written), faults);
     drop(ran);
@@ -150,29 +163,40 @@ fn settings_of(node: &NodeConfig, keys: Option<Keys>, follow: bool) -> Settings
     }
 }
 
-/// Starts the thread that resolves the hosts among a node's seeds, if there are any, and announces the node, if it is
-/// to be announced. If memory for either or the thread is refused, nothing is reported.
-fn prepare<R, F>(
-    rt: &R,
+/// What a node is started with besides its configuration: which addresses its hosts have, and what records it.
+#[derive(Drop)]
+struct Prepared<'n, R: RecordFolders + FaultStreams> {
+    resolved: Arc<ResolvedSeeds, Global>,
+    recorder: Option<DiskRecord<'n, R>>,
+}
+
+/// Makes the recorder of a node that is to be recorded, starts the thread that resolves the hosts among its seeds, if
+/// there are any, and announces the node, if it is to be announced. If memory for one of these or the thread is
+/// refused, nothing is reported.
+fn prepare<'n, R, F>(
+    rt: &'n R,
     alloc: Global,
+    bytes: &'n [u8],
     wishes: &Wishes<'_>,
-    node: &NodeConfig,
+    node: &'n NodeConfig,
     faults: &mut F,
-) -> Result<Arc<ResolvedSeeds, Global>, AllocError>
+) -> Result<Prepared<'n, R>, AllocError>
 where
-    R: AllocGlobal + Wait + Threads + rt::Clock + FaultStreams,
+    R: AllocGlobal + Wait + Threads + rt::Clock + FaultStreams + RecordFolders,
     R: Net<Listener = TcpListener, Stream = TcpStream> + Copy + Send + 'static,
     F: FaultStream,
     ensures said { OnOk result (Announces wishes.now.until wishes.now.follow (F.reported faults.old)
         (F.reported faults.new) (start_line (source_of wishes.now.source).file node.now)) }
+    ensures records { IfOk result (λ p. is_some p.recorder ≡ is_some node.now.record_folder) }
     ensures refused { OnErr result (faults.new ≡ faults.old) }
 {
+    let recorder = recorder_of(rt, alloc, node, bytes)?;
     let resolved = resolved_seeds(rt, alloc, node)?;
     if is_announced(wishes) {
         let line = start_line(alloc, wishes.source.file, node)?;
         report(faults, line.as_str());
     }
-    Ok(resolved)
+    Ok(Prepared { resolved, recorder })
 }
 
 /// Why an address can't be bound. It is empty if memory for it was refused.

@@ -11,6 +11,7 @@ pub mod Pulling
 pub mod Pausing
 pub mod BothLoops
 pub mod Asking
+pub mod Recorders
 pub mod Examples
 pub mod PullingExamples
 pub mod PausingExamples

@@ -7,6 +7,7 @@ ghost use Rattle.lg_turns.specs.Meaning.Turns.{unstarted};
 
 use crate::changes::ChangeSignal;
 use crate::ending::{Ended, LoopEnd, Why};
+use crate::recording::RecorderSignal;
 use crate::resolved::ResolvedSeeds;
 use left_right::Absorb;
 use lg_agent::{AgentName, Pass};
@@ -61,14 +62,19 @@ pub struct Shared<'a, R, C> {
     pub deadlines: &'a DeadlineSignal,
     /// Which addresses the hosts among the seeds were found to have.
     pub resolved: &'a ResolvedSeeds,
+    /// By which the recorder, if the node is recorded, is woken when many calls were answered.
+    pub recorder: Option<&'a RecorderSignal>,
 }
 
 impl<'a, R: Wait, C> Shared<'a, R, C> {
     /// Adds what a call counts that was answered at a moment by this reply. If a record changed, or a member was
     /// forgotten, it wakes those who look at the agent for that: the status server, and the watcher of a node that is
-    /// followed. Allocates nothing.
+    /// followed. The recorder of a node that is recorded is told of each call. Allocates nothing.
     pub fn note(&self, now: Moment, reply: &Reply, noted: &Noted) {
         self.counters.note(now, noted);
+        if let Some(recorder) = self.recorder {
+            recorder.note(self.rt);
+        }
         if reply.changed.len() == 0 && reply.forgotten.len() == 0 {
             return;
         }

@@ -9,6 +9,8 @@ use Rattle.lg_answers.specs.declared.metric.Metric.TheVariants.{Uptime, StoodSti
 use Rattle.lg_answers.specs.declared.metric.Metric.TheVariants.{ProbesFailed, ProbesHelped, SuspicionsRaised}
 use Rattle.lg_answers.specs.declared.metric.Metric.TheVariants.{SuspicionsRefuted, HistoryEntries, HistoryRotations}
 use Rattle.lg_answers.specs.declared.metric.Metric.TheVariants.{CallsRefused, MembersForgotten}
+use Rattle.lg_answers.specs.declared.metric.Metric.TheVariants.{RecordedEntries, RecordedBytes, RecordingLost}
+use Rattle.lg_answers.specs.declared.metric.Metric.TheVariants.{RecordingFailures}
 use Rattle.lg_answers.specs.declared.snapshot.Snapshot.{Snapshot}
 
 -- the metrics in the order in which they are shown
@@ -16,7 +18,8 @@ abbrev pub metrics : List Metric
 metrics =
     HealthScore ∷ Incarnation ∷ Ousted ∷ Events ∷ LastEvent ∷ Uptime ∷ StoodStill ∷ Received ∷ Sent ∷ Unsent
     ∷ ProbesBegun ∷ ProbesFailed ∷ ProbesHelped ∷ SuspicionsRaised ∷ SuspicionsRefuted
-    ∷ MembersForgotten ∷ HistoryEntries ∷ HistoryRotations ∷ CallsRefused ∷ []
+    ∷ MembersForgotten ∷ HistoryEntries ∷ HistoryRotations ∷ CallsRefused
+    ∷ RecordedEntries ∷ RecordedBytes ∷ RecordingLost ∷ RecordingFailures ∷ []
 
 abbrev pub metric_name : Metric → List ℕ
 metric_name HealthScore = codes "lg_health_score"
@@ -38,6 +41,10 @@ metric_name MembersForgotten = codes "lg_members_forgotten_total"
 metric_name HistoryEntries = codes "lg_history_entries_total"
 metric_name HistoryRotations = codes "lg_history_rotations_total"
 metric_name CallsRefused = codes "lg_calls_refused_total"
+metric_name RecordedEntries = codes "lg_recorded_entries_total"
+metric_name RecordedBytes = codes "lg_recorded_bytes_total"
+metric_name RecordingLost = codes "lg_recording_lost_entries_total"
+metric_name RecordingFailures = codes "lg_recording_failures_total"
 
 abbrev pub metric_help : Metric → List ℕ
 metric_help HealthScore = codes "Health score of this member, 0 at best."
@@ -59,6 +66,10 @@ metric_help MembersForgotten = codes "Members forgotten, those that became known
 metric_help HistoryEntries = codes "Entries that the history took."
 metric_help HistoryRotations = codes "Rotations of the history."
 metric_help CallsRefused = codes "Calls that were refused."
+metric_help RecordedEntries = codes "Entries recorded."
+metric_help RecordedBytes = codes "Bytes recorded."
+metric_help RecordingLost = codes "Entries that were to be recorded and were not."
+metric_help RecordingFailures = codes "Batches of entries that were not recorded whole."
 
 -- a counter only grows from the start of the node on
 abbrev pub metric_type : Metric → List ℕ
@@ -93,3 +104,7 @@ metric_amount MembersForgotten s = Number s.counts.members_forgotten
 metric_amount HistoryEntries s = Number s.counts.history_entries
 metric_amount HistoryRotations s = Number s.counts.history_rotations
 metric_amount CallsRefused s = Number s.counts.calls_refused
+metric_amount RecordedEntries s = Number s.counts.recorded.entries
+metric_amount RecordedBytes s = Number s.counts.recorded.bytes
+metric_amount RecordingLost s = Number s.counts.recorded.lost
+metric_amount RecordingFailures s = Number s.counts.recorded.failures

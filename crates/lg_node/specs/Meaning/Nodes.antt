@@ -32,6 +32,7 @@ use Rattle.lg_turns.specs.declared.node_link.NodeLink.{NodeLink}
 use Rattle.lg_turns.specs.declared.shared.TheConstants.{MAX_TURNS}
 use Rattle.lg_turns.specs.Meaning.Turns.{line, LinkValue}
 use Rattle.lg_turns.specs.Meaning.Asking.{Asked}
+use Rattle.lg_turns.specs.Meaning.Recorders.{OnlyRotated}
 use Rattle.lg_turns.specs.Meaning.NodeLinks.{failures_of, link_keys}
 use Rattle.lg_turns.specs.Meaning.Pulling.{plan_of}
 use Rattle.lg_turns.specs.Meaning.BothLoops.{BothRan}
@@ -83,6 +84,11 @@ WatchesIf true before after held holds (Some end) = HasWatched before after held
 WatchesIf true before after held holds None = ⊥
 WatchesIf false before after held holds (Some end) = ⊥
 WatchesIf false before after held holds None = after ≡ before
+
+-- What the recorder did, if the node was recorded: its pass only rotated. If it wasn't, its pass did nothing.
+abbrev pub RecordsIf : Bool → (before after : PassValue) → Type 0
+RecordsIf true before after = OnlyRotated before after
+RecordsIf false before after = after ≡ before
 
 -- What a status server did, from its state `server` to its state `server'`, by how it ended. If its first look was
 -- refused, or memory for what it shows, it served nobody. Otherwise it did what a status server does that shows this
@@ -145,18 +151,22 @@ pub record HasWorked
       (λ r. ((r ≡ NoView) ⊎ (r ≡ NoMemory)) × (reader ≡ watcher))
 
 -- A node ran with a configuration and settings until a moment, or until something ended it before. It opened an agent
--- with four places, did its work, and closed the agent with what the four passes left. Closing may have been refused.
+-- with five places, did its work, which a fifth pass recorded if the node was to be recorded, and closed the agent with
+-- what the five passes left. Closing may have been refused.
 pub record IsRun
-    (config : Config) (settings : Settings) (until : ℕ) (held holds : Option (List ℕ)) (e : NodeEnd) : Type 0 where
+    (config : Config) (settings : Settings) (until : ℕ) (held holds : Option (List ℕ)) (records : Bool) (e : NodeEnd)
+    : Type 0 where
   pub start : ℕ
   pub receiver : PassValue
   pub ticker : PassValue
   pub reader : PassValue
   pub status : PassValue
+  pub recorder : PassValue
+  pub recorded : RecordsIf records (fresh_own config start 5) recorder
   pub worked : HasWorked config settings until start held holds e.received e.ticked e.watched e.served e.members
       receiver ticker reader status
-  pub closed : MatchResult e.closed (λ c. IsClosed 4 c (receiver ∷ ticker ∷ reader ∷ status ∷ []))
-      (λ f. IsRefusedClosing 4 (receiver ∷ ticker ∷ reader ∷ status ∷ []) f)
+  pub closed : MatchResult e.closed (λ c. IsClosed 5 c (receiver ∷ ticker ∷ reader ∷ status ∷ recorder ∷ []))
+      (λ f. IsRefusedClosing 5 (receiver ∷ ticker ∷ reader ∷ status ∷ recorder ∷ []) f)
 
 -- What a node can be refused for before its loops. Memory can be refused throughout, and a reader for a pass at the
 -- opening. The call that asks a seed can be refused for a full history, which has the configuration's limit or the most

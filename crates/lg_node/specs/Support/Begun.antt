@@ -11,7 +11,7 @@ use Rattle.lg_node.specs.Meaning.Nodes.{fresh_own, AreLinks}
 -- pass asked them, over the link of the ticking loop.
 pub record HasBegun
     (config : Config) (settings : Settings) (start : ℕ) (hears between : LinkValue)
-    (receiver ticker asker status : PassValue) (unsent : ℕ)
+    (receiver ticker asker status recorder : PassValue) (unsent : ℕ)
     : Type 0 where
   pub sends : LinkValue
   pub links : AreLinks settings hears sends
@@ -19,3 +19,4 @@ pub record HasBegun
   pub receiver_is : receiver ≡ fresh_own config start 1
   pub ticker_is : ticker ≡ fresh_own config start 2
   pub status_is : status ≡ fresh_own config start 4
+  pub recorder_is : recorder ≡ fresh_own config start 5

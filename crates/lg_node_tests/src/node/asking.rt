@@ -4,7 +4,7 @@ use arrayvec::ArrayVec;
 use lg_agent::{CloseFault, Closed};
 use lg_detector::Event;
 use lg_loops::NodeLoops;
-use lg_node::{LoopEnd, NodeStart, ResolvedSeeds, Settings, Why, run_node};
+use lg_node::{LoopEnd, NodeStart, ResolvedSeeds, Settings, Unrecorded, Why, run_node};
 use lg_rules::Addr;
 use lg_testing::{Room, at, letter, local};
 use lg_timing::{Config, Seed};
@@ -145,7 +145,15 @@ where
         stop: &stop,
         resolved: &resolved,
     };
-    let ran = run_node(rt, alloc, &start, &mut unread, &mut faults).ok()?;
+    let ran = run_node(
+        rt,
+        alloc,
+        &start,
+        None::<Unrecorded>,
+        &mut unread,
+        &mut faults,
+    )
+    .ok()?;
     Some((ran.ticked, asked(&ran.closed)))
 }
 

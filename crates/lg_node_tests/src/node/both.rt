@@ -13,7 +13,7 @@ use lg_detector::Event;
 use lg_loops::NodeLoops;
 use lg_node::{
     Both, ChangeSignal, Counters, LoopEnd, PcgDice, ResolvedSeeds, ServerSide, Settings, Shared,
-    Side, Sides, StatusServer, Watched, Watching, Why, join_threads,
+    Side, Sides, StatusServer, Unrecorded, Watched, Watching, Why, join_threads,
 };
 use lg_testing::{Room, at, letter, local};
 use lg_timing::{Config, MAX_MOMENT};
@@ -168,6 +168,7 @@ fn shared<'a, R, C>(
         pause_ms: WAIT_MS,
         deadlines: noted.resolved.deadlines(),
         resolved: &noted.resolved,
+        recorder: None,
     }
 }
 
@@ -231,7 +232,14 @@ where
     let mut writer = Room::failing(0);
     let mut faults = Room::failing(0);
     let watching = Watching::new(&shared, run.follow, watcher, &mut writer);
-    let (watched, (served, both)) = join_threads(&shared, sides, server, watching, &mut faults);
+    let (watched, (served, (both, _unrecorded))) = join_threads(
+        &shared,
+        sides,
+        server,
+        watching,
+        &mut faults,
+        Unrecorded,
+    );
     let looked = Looked {
         watcher: watched.0,
         watched: watched.1.1,

@@ -70,6 +70,7 @@ pub(super) fn shared<'a, R>(
         pause_ms: WAIT_MS,
         deadlines: noted.resolved.deadlines(),
         resolved: &noted.resolved,
+        recorder: None,
     }
 }
 

@@ -1,6 +1,6 @@
 -- How the node of a configuration is run: what is announced, what is written, and what is told of its end.
 use Rattle.std.specs.Prelude.{◌≡◌, ◌⊎◌, ◌==◌, ℕ, not, Bool, true, false, List, [], length, if◌then◌else◌}
-use Rattle.std.specs.Prelude.{Option, Some, None, IsSome, Result, Ok, Err, MatchResult, OnErr}
+use Rattle.std.specs.Prelude.{Option, Some, None, is_some, IsSome, Result, Ok, Err, MatchResult, OnErr}
 use Rattle.std.specs.Option.{option_map}
 use Rattle.std.specs.Result.{result_ok}
 use Rattle.lg_rules.specs.declared.addr.Addr.{Addr}
@@ -103,9 +103,10 @@ node_settings n keys follow = record {
 }
 
 -- The node of a configuration ran with these keys until a moment. If it followed, its watcher wrote all that the writer
--- gained.
+-- gained. It was recorded if the configuration names a folder for that.
 abbrev pub HasRun : NodeConfig → Option Keys → ℕ → Bool → (held holds : Option (List ℕ)) → NodeEnd → Type 0
-HasRun n keys until follow held holds e = IsRun n.config (node_settings n keys follow) until held holds e
+HasRun n keys until follow held holds e =
+    IsRun n.config (node_settings n keys follow) until held holds (is_some n.record_folder) e
 
 -- The keys are those of a key file, if the configuration names one: those that some text spells. What a file holds no
 -- contract can say. Without a key file there are none.

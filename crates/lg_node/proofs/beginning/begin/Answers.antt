@@ -33,4 +33,5 @@ returns-clause-begun g c = λ start name told.
       receiver_is = rw (c.of-sides.ensures.receiver, c.new.ensures.pass) ready.0;
       ticker_is = rw (c.of-sides.ensures.ticker, c.new-2.ensures.pass) ready.1;
       status_is = ready.3;
+      recorder_is = ready.4;
     }

@@ -4,4 +4,4 @@ abbrev pub ghosts-open_and_serve-A-PairName : goal.ghosts-open_and_serve-A-PairN
 ghosts-open_and_serve-A-PairName g a = record { book = a.book.seen.book }
 
 abbrev pub ghosts-open_and_serve-A-AgentName : goal.ghosts-open_and_serve-A-AgentName
-ghosts-open_and_serve-A-AgentName g a = record { places = 4 }
+ghosts-open_and_serve-A-AgentName g a = record { places = 5 }

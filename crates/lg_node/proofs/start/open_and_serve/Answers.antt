@@ -11,18 +11,20 @@ returns-clause-ran g c =
     let told = c.in-Ok-begin.ensures.told in
     let left = c.leave-left in
     let end = c.close.ensures in
-    let threads = c.join_threads-joined in record {
+    let threads = c.join_recorded-joined in record {
       start = opened.told.0;
       receiver = left.result.0.receiver;
       ticker = left.result.0.ticker;
       reader = left.result.0.reader;
       status = left.result.0.status;
+      recorder = left.result.0.recorder;
+      recorded = rw (left.ensures.passes.3, ← begun.recorder_is) threads.ensures.recorded;
       worked =
           record {
             hears = line [] (failures_of ready.sides.receiver.link);
-            hears' = line [] (failures_of threads.result.1.1.0.link);
+            hears' = line [] (failures_of threads.result.1.1.0.0.link);
             sends = begun.sends;
-            sends' = line [] (failures_of threads.result.1.1.1.link);
+            sends' = line [] (failures_of threads.result.1.1.0.1.link);
             asker = ready.asker;
             watcher = threads.result.0.0;
             links = begun.links;
@@ -30,7 +32,7 @@ returns-clause-ran g c =
                 record {
                   between = line [] (failures_of ready.sides.ticker.link);
                   unsent = ready.unsent;
-                  later = threads.result.1.1.1.end.unsent;
+                  later = threads.result.1.1.0.1.end.unsent;
                   asked = begun.asked;
                   ran = rw (
                     end.received,

@@ -37,8 +37,8 @@ returns g c =
                 inl
                     (announced-runs contents reported c.args.writer.now run.new.writer written.new.writer
                     before c.prepare.new.faults run.new.faults told.new.faults (source_of wishes.source).file node keys
-                    wishes.until wishes.follow c.settings_of-settings.result c.end_wished.result run.result written.result c.of.result told.result
-                    c.in-Ok-prepare.ensures.said c.settings_of-settings.ensures c.end_wished.ensures
+                    wishes.until wishes.follow _ c.settings_of-settings.result c.end_wished.result run.result written.result c.of.result told.result
+                    c.in-Ok-prepare.ensures.said c.settings_of-settings.ensures c.end_wished.ensures c.in-Ok-prepare.ensures.records
                     run.ensures.ran run.ensures.refused run.ensures.alone run.ensures.unwritten run.ensures.told run.ensures.untold
                     written.ensures c.of.ensures told.ensures.lines told.ensures.status),
               )),

@@ -4,8 +4,9 @@ use Rattle.lg_node.proofs.beside.fn.tick_beside.scope.Goals as goal
 
 pub returns : goal.returns
 returns g c =
-    let received = subst (λ w. g.Y.Work.gives w c.join_or_do-received.result) (ap (λ p. p.work.value) c.start_if-receiving.ensures.promised ∙ c.of-3.ensures) c.join_or_do-received.ensures in
+    let received = subst (λ w. g.Y.Work.gives w c.join_or_do-received.result) (ap (λ p. p.work.value) c.start_if-receiving.ensures.promised ∙ c.of-4.ensures) c.join_or_do-received.ensures in
     let watched = subst (λ w. g.V.Work.gives w c.join_or_do.result) (ap (λ p. p.work.value) c.start_if-watching.ensures.promised ∙ c.of.ensures) c.join_or_do.ensures in
+    let recorded = subst (λ w. g.Z.Work.gives w c.join_or_do-3.result) (ap (λ p. p.work.value) c.start_if-recording.ensures.promised ∙ c.of-3.ensures) c.join_or_do-3.ensures in
     let served = subst (λ w. g.X.Work.gives w c.join_or_do-2.result) (ap (λ p. p.work.value) c.start_if-serving.ensures.promised ∙ c.of-2.ensures) c.join_or_do-2.ensures in
     elim c.if-had_thread.branch [
       | then-had_thread w ↦ record {
@@ -14,6 +15,7 @@ returns g c =
         unheard = λ lacked. let on = w.if-had_thread in cc;
         watched = watched;
         served = served;
+        recorded = recorded;
       }
       | else-had_thread w ↦ record {
         received = received;
@@ -25,5 +27,6 @@ returns g c =
         };
         watched = watched;
         served = served;
+        recorded = recorded;
       }
     ]

@@ -1,0 +1,2 @@
+-- What is right: whoever wants to believe the contracts reads these.
+pub mod Sources

@@ -1,0 +1,94 @@
+//! How a node is recorded: what its start needs of a recorder, and what the loops and it tell each other.
+//!
+//! Defined in: `specs/Meaning/Recorders.antt`.
+//! Tested in: `lg_node_tests/src/node/recording.rt`.
+ghost use Rattle.lg_turns.specs.Meaning.Recorders.{OnlyRotated};
+
+use crate::changes::ChangeSignal;
+use crate::shared::Shared;
+use lg_agent::{AgentName, Pass};
+use lg_clock::Clock;
+use std::rt;
+use std::sync::Wait;
+use std::sync::atomic::Ordering::SeqCst;
+use std::sync::atomic::{AtomicBool, AtomicU64};
+
+/// By which a recorder is woken: when many calls were answered since it was woken last, and when the node has ended.
+/// Threads share it by reference. No call allocates.
+#[derive(Drop)]
+pub struct RecorderSignal {
+    woken: ChangeSignal,
+    /// How many calls were answered.
+    calls: AtomicU64,
+    /// After how many calls the recorder is woken, at least 1.
+    every: u64,
+    /// Whether the node has ended.
+    ended: AtomicBool,
+}
+
+impl RecorderSignal {
+    /// One for a node whose history has at most so many entries. It wakes its recorder whenever a quarter as many calls
+    /// were answered, so that the history is cut off before it is full (this project's choice).
+    pub fn new(history_limit: u64) -> RecorderSignal {
+        RecorderSignal {
+            woken: ChangeSignal::new(),
+            calls: AtomicU64::new(0),
+            every: (history_limit / 4).max(1),
+            ended: AtomicBool::new(false),
+        }
+    }
+
+    /// A call was answered.
+    pub fn note<R: Wait>(&self, rt: &R) {
+        let every = self.every.max(1);
+        if self.calls.fetch_add(1, SeqCst) % every == every - 1 {
+            self.woken.set(rt);
+        }
+    }
+
+    /// The node has ended: its recorder is to record what is left, and to end.
+    pub fn end<R: Wait>(&self, rt: &R) {
+        self.ended.store(true, SeqCst);
+        self.woken.set(rt);
+    }
+
+    /// Whether the node has ended.
+    pub fn has_ended(&self) -> &AtomicBool {
+        &self.ended
+    }
+
+    /// Waits until it is woken, for so many milliseconds at most. If it was woken since the last wait, this doesn't
+    /// wait.
+    pub fn wait_at_most<R: Wait + rt::Clock>(&self, rt: &R, ms: u64) {
+        self.woken.wait_at_most(rt, ms);
+    }
+}
+
+/// Records what happens to a node.
+pub trait NodeRecorder {
+    /// Records with a pass of the node's agent until the signal says that the node has ended, and then once more. It
+    /// rotates the history and makes no call. Gives the pass back.
+    fn record<'p, A: AgentName, R: Wait + rt::Clock, C: Clock>(
+        self,
+        shared: &Shared<'_, R, C>,
+        signal: &RecorderSignal,
+        pass: Pass<'p, A>,
+    ) -> Pass<'p, A>
+        ensures { OnlyRotated pass.entry result };
+}
+
+/// The recorder of a node that isn't recorded. None is ever made by the program.
+#[derive(Clone, Copy, Debug)]
+pub struct Unrecorded;
+
+impl NodeRecorder for Unrecorded {
+    /// It records nothing.
+    fn record<'p, A: AgentName, R: Wait + rt::Clock, C: Clock>(
+        self,
+        _shared: &Shared<'_, R, C>,
+        _signal: &RecorderSignal,
+        pass: Pass<'p, A>,
+    ) -> Pass<'p, A> {
+        pass
+    }
+}
