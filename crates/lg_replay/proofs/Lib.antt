@@ -1,0 +1,9 @@
+pub mod CountLaws
+pub mod EndLaws
+pub mod EntriesLaws
+pub mod EntryLaws
+pub mod FolderLaws
+pub mod KnownLaws
+pub mod ReadLaws
+pub mod RecordedLaws
+pub mod ReplayLaws
