@@ -76,6 +76,10 @@ def drawn_first(client, port):
     return first if isinstance(first, int) and 1 <= first <= 4_294_967_295 else "one of 1 to 4,294,967,295"
 
 
+# The keys of a file that /v1/config leaves out.
+UNSHOWN = {"record", "record_mb"}
+
+
 def config_wanted(group, name, first):
     """The configuration of a node of a group, with the defaults, which has drawn this first number."""
     lines = [line.split(" = ") for line in group.keys_of(name).splitlines()]
@@ -84,7 +88,8 @@ def config_wanted(group, name, first):
            "status": f"{HOST}:{group.status[name]}", "status_open": False, "first": first, "group": None,
            "leave": True, "bind": f"{HOST}:{group.own[name]}"}
     seeds = [{"name": it, "address": HOST, "port": port} for it, port in group.seeds if it != name]
-    return defaults() | given | own | {"seeds": seeds}
+    shown = defaults() | given | own | {"seeds": seeds}
+    return {key: value for key, value in shown.items() if key not in UNSHOWN}
 
 
 # ---- Faults of answers

@@ -12,7 +12,7 @@ SECONDS = 20
 # What is set, as `check` writes it.
 SET = {"name": "a", "wire": "3", "forget_ms": "86400000", "status": "127.0.0.1:8946", "history_limit": "1000"}
 # The keys with an example in the place of a default: by default there is none, or it is made of other keys.
-EXAMPLES = {"bind", "dice", "group", "key_file"}
+EXAMPLES = {"bind", "dice", "group", "key_file", "record"}
 # A line with a key: one that is set, or one in a comment.
 KEY_LINE = re.compile(r"^(# )?([a-z_]+) = (.+)$", re.M)
 

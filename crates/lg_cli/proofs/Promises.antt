@@ -10,16 +10,17 @@ use Rattle.lg_run.specs.Meaning.Running.{RunsSource}
 use Rattle.lg_commands.specs.Meaning.Choosing.{order_text}
 use Rattle.lg_commands.specs.Meaning.Running.{FailsBy, RunsAnswer, RunsInit, RunsOrder, RunsSim, RunsTimeouts}
 use Rattle.lg_commands.specs.Meaning.Running.{RunsVersion}
+use Rattle.lg_commands.specs.Meaning.Replaying.{part_of}
 use Rattle.lg_commands.specs.declared.timeouts.Numbers.{Numbers}
 use Rattle.lg_client.specs.Meaning.Leaving.{LeavesNode}
 use Rattle.lg_command_line.specs.declared.asked.Question.{Question}
 use Rattle.lg_command_line.specs.Meaning.Commands.{Request, answer, ask, check, init, leave, node, order, sim, timeouts}
-use Rattle.lg_command_line.specs.Meaning.Commands.{asked, line_faults, version}
+use Rattle.lg_command_line.specs.Meaning.Commands.{asked, line_faults, replay, version}
 use Rattle.lg_command_line.specs.Meaning.Commands.{IfAnswer, IfAsk, IfCheck, IfInit, IfLeave, IfNode, IfOrder, IfSim, IfTimeouts}
-use Rattle.lg_command_line.specs.Meaning.Commands.{IfVersion}
+use Rattle.lg_command_line.specs.Meaning.Commands.{IfReplay, IfVersion}
 use Rattle.lg_command_line.specs.Meaning.Commands.{RefusesLine}
 use Rattle.lg_cli.specs.Meaning.Running.{Streams, RunsNamed, RunsLists, RunsNumbers, RunsScript, RunsNodeSource, RunsCheck}
-use Rattle.lg_cli.specs.Meaning.Running.{AsksNode, RunsAsking, RunsFirstFile, RunsLeaving, RunsOwnVersion}
+use Rattle.lg_cli.specs.Meaning.Running.{AsksNode, ReplaysPart, RunsAsking, RunsFirstFile, RunsLeaving, RunsOwnVersion, RunsReplay}
 use Rattle.lg_cli.specs.Meaning.Running.{RunsRequest, LacksUnread, LeavesUnread, RunsLine}
 
 abbrev IsCons : {X : Type 0} → List X → Type 0
@@ -41,6 +42,7 @@ NeedsNoMachine (check source) = ⊥
 NeedsNoMachine (ask question at json) = ⊥
 NeedsNoMachine init = Unit {0}
 NeedsNoMachine (leave at name) = ⊥
+NeedsNoMachine (replay folder from to only) = ⊥
 NeedsNoMachine version = ⊥
 
 module _ (R W : Type 0) (before after : Streams R W) (status : ℕ) where
@@ -55,6 +57,7 @@ module _ (R W : Type 0) (before after : Streams R W) (status : ℕ) where
   of_answer P (ask question at json) run give = tt
   of_answer P init run give = tt
   of_answer P (leave at name) run give = tt
+  of_answer P (replay folder from to only) run give = tt
   of_answer P version run give = tt
 
   of_order : (P : List ℕ → List ℕ → Type 0) (r : Request) → RunsRequest before after r status
@@ -68,6 +71,7 @@ module _ (R W : Type 0) (before after : Streams R W) (status : ℕ) where
   of_order P (ask question at json) run give = tt
   of_order P init run give = tt
   of_order P (leave at name) run give = tt
+  of_order P (replay folder from to only) run give = tt
   of_order P version run give = tt
 
   of_timeouts : (P : Numbers → Type 0) (r : Request) → RunsRequest before after r status
@@ -81,6 +85,7 @@ module _ (R W : Type 0) (before after : Streams R W) (status : ℕ) where
   of_timeouts P (ask question at json) run give = tt
   of_timeouts P init run give = tt
   of_timeouts P (leave at name) run give = tt
+  of_timeouts P (replay folder from to only) run give = tt
   of_timeouts P version run give = tt
 
   of_sim : (P : Type 0) (r : Request) → RunsRequest before after r status
@@ -94,6 +99,7 @@ module _ (R W : Type 0) (before after : Streams R W) (status : ℕ) where
   of_sim P (ask question at json) run give = tt
   of_sim P init run give = tt
   of_sim P (leave at name) run give = tt
+  of_sim P (replay folder from to only) run give = tt
   of_sim P version run give = tt
 
   of_node : (P : SourceValue → Option ℕ → Bool → Type 0) (r : Request) → RunsRequest before after r status
@@ -108,6 +114,7 @@ module _ (R W : Type 0) (before after : Streams R W) (status : ℕ) where
   of_node P (ask question at json) run give = tt
   of_node P init run give = tt
   of_node P (leave at name) run give = tt
+  of_node P (replay folder from to only) run give = tt
   of_node P version run give = tt
 
   of_check : (P : SourceValue → Type 0) (r : Request) → RunsRequest before after r status
@@ -121,6 +128,7 @@ module _ (R W : Type 0) (before after : Streams R W) (status : ℕ) where
   of_check P (ask question at json) run give = tt
   of_check P init run give = tt
   of_check P (leave at name) run give = tt
+  of_check P (replay folder from to only) run give = tt
   of_check P version run give = tt
 
   of_ask : (P : Question → List ℕ → Bool → Type 0) (r : Request) → RunsRequest before after r status
@@ -136,6 +144,7 @@ module _ (R W : Type 0) (before after : Streams R W) (status : ℕ) where
   of_ask P (ask question at json) run give = give question at json run
   of_ask P init run give = tt
   of_ask P (leave at name) run give = tt
+  of_ask P (replay folder from to only) run give = tt
   of_ask P version run give = tt
 
   of_init : (P : Type 0) (r : Request) → RunsRequest before after r status
@@ -149,6 +158,7 @@ module _ (R W : Type 0) (before after : Streams R W) (status : ℕ) where
   of_init P (ask question at json) run give = tt
   of_init P init run give = give run
   of_init P (leave at name) run give = tt
+  of_init P (replay folder from to only) run give = tt
   of_init P version run give = tt
 
   of_leave : (P : List ℕ → List ℕ → Type 0) (r : Request) → RunsRequest before after r status
@@ -162,7 +172,22 @@ module _ (R W : Type 0) (before after : Streams R W) (status : ℕ) where
   of_leave P (ask question at json) run give = tt
   of_leave P init run give = tt
   of_leave P (leave at name) run give = give at name run
+  of_leave P (replay folder from to only) run give = tt
   of_leave P version run give = tt
+
+  of_replay : (P : List ℕ → ℕ → ℕ → Option (List ℕ) → Type 0) (r : Request) → RunsRequest before after r status
+      → ((folder : List ℕ) (from to : ℕ) (only : Option (List ℕ)) → RunsReplay before after folder from to only status → P folder from to only) → IfReplay r P
+  of_replay P (answer text) run give = tt
+  of_replay P (order names words) run give = tt
+  of_replay P (timeouts numbers) run give = tt
+  of_replay P sim run give = tt
+  of_replay P (node source for_ms follow until_input_ends) run give = tt
+  of_replay P (check source) run give = tt
+  of_replay P (ask question at json) run give = tt
+  of_replay P init run give = tt
+  of_replay P (leave at name) run give = tt
+  of_replay P (replay folder from to only) run give = give folder from to only run
+  of_replay P version run give = tt
 
   of_version : (P : Type 0) (r : Request) → RunsRequest before after r status
       → (RunsOwnVersion before after status → P) → IfVersion r P
@@ -175,6 +200,7 @@ module _ (R W : Type 0) (before after : Streams R W) (status : ℕ) where
   of_version P (ask question at json) run give = tt
   of_version P init run give = tt
   of_version P (leave at name) run give = tt
+  of_version P (replay folder from to only) run give = tt
   of_version P version run give = give run
 
   -- a run that failed, of a command that needs no machine
@@ -189,6 +215,7 @@ module _ (R W : Type 0) (before after : Streams R W) (status : ℕ) where
   run_fails (ask question at json) other run one = absurd other
   run_fails init other run one = run.failed one
   run_fails (leave at name) other run one = absurd other
+  run_fails (replay folder from to only) other run one = absurd other
   run_fails version other run one = absurd other
 
   -- such a run doesn't have the status of a refusal
@@ -202,6 +229,7 @@ module _ (R W : Type 0) (before after : Streams R W) (status : ℕ) where
   run_isnt_refused (ask question at json) other run = absurd other
   run_isnt_refused init other run = run.run
   run_isnt_refused (leave at name) other run = absurd other
+  run_isnt_refused (replay folder from to only) other run = absurd other
   run_isnt_refused version other run = absurd other
 
   lacks_fails : LacksUnread before after status → FailsBy before.reported after.reported before.writer after.writer
@@ -225,6 +253,7 @@ all_answer P (check source) give = tt
 all_answer P (ask question at json) give = tt
 all_answer P init give = tt
 all_answer P (leave at name) give = tt
+all_answer P (replay folder from to only) give = tt
 all_answer P version give = tt
 
 all_order : (P : List ℕ → List ℕ → Type 0) (r : Request) → ((names words : List ℕ) → P names words) → IfOrder r P
@@ -237,6 +266,7 @@ all_order P (check source) give = tt
 all_order P (ask question at json) give = tt
 all_order P init give = tt
 all_order P (leave at name) give = tt
+all_order P (replay folder from to only) give = tt
 all_order P version give = tt
 
 all_timeouts : (P : Numbers → Type 0) (r : Request) → ((numbers : Numbers) → P numbers) → IfTimeouts r P
@@ -249,6 +279,7 @@ all_timeouts P (check source) give = tt
 all_timeouts P (ask question at json) give = tt
 all_timeouts P init give = tt
 all_timeouts P (leave at name) give = tt
+all_timeouts P (replay folder from to only) give = tt
 all_timeouts P version give = tt
 
 all_sim : (P : Type 0) (r : Request) → P → IfSim r P
@@ -261,6 +292,7 @@ all_sim P (check source) give = tt
 all_sim P (ask question at json) give = tt
 all_sim P init give = tt
 all_sim P (leave at name) give = tt
+all_sim P (replay folder from to only) give = tt
 all_sim P version give = tt
 
 all_node : (P : SourceValue → Option ℕ → Bool → Type 0) (r : Request) → ((source : SourceValue) (for_ms : Option ℕ) (follow : Bool) → P source for_ms follow)
@@ -274,6 +306,7 @@ all_node P (check source) give = tt
 all_node P (ask question at json) give = tt
 all_node P init give = tt
 all_node P (leave at name) give = tt
+all_node P (replay folder from to only) give = tt
 all_node P version give = tt
 
 all_check : (P : SourceValue → Type 0) (r : Request) → ((source : SourceValue) → P source) → IfCheck r P
@@ -286,6 +319,7 @@ all_check P (check source) give = give source
 all_check P (ask question at json) give = tt
 all_check P init give = tt
 all_check P (leave at name) give = tt
+all_check P (replay folder from to only) give = tt
 all_check P version give = tt
 
 all_ask : (P : Question → List ℕ → Bool → Type 0) (r : Request)
@@ -299,6 +333,7 @@ all_ask P (check source) give = tt
 all_ask P (ask question at json) give = give question at json
 all_ask P init give = tt
 all_ask P (leave at name) give = tt
+all_ask P (replay folder from to only) give = tt
 all_ask P version give = tt
 
 all_init : (P : Type 0) (r : Request) → P → IfInit r P
@@ -311,6 +346,7 @@ all_init P (check source) give = tt
 all_init P (ask question at json) give = tt
 all_init P init give = give
 all_init P (leave at name) give = tt
+all_init P (replay folder from to only) give = tt
 all_init P version give = tt
 
 all_leave : (P : List ℕ → List ℕ → Type 0) (r : Request) → ((at name : List ℕ) → P at name) → IfLeave r P
@@ -323,7 +359,22 @@ all_leave P (check source) give = tt
 all_leave P (ask question at json) give = tt
 all_leave P init give = tt
 all_leave P (leave at name) give = give at name
+all_leave P (replay folder from to only) give = tt
 all_leave P version give = tt
+
+all_replay : (P : List ℕ → ℕ → ℕ → Option (List ℕ) → Type 0) (r : Request)
+    → ((folder : List ℕ) (from to : ℕ) (only : Option (List ℕ)) → P folder from to only) → IfReplay r P
+all_replay P (answer text) give = tt
+all_replay P (order names words) give = tt
+all_replay P (timeouts numbers) give = tt
+all_replay P sim give = tt
+all_replay P (node source for_ms follow until_input_ends) give = tt
+all_replay P (check source) give = tt
+all_replay P (ask question at json) give = tt
+all_replay P init give = tt
+all_replay P (leave at name) give = tt
+all_replay P (replay folder from to only) give = give folder from to only
+all_replay P version give = tt
 
 module _ (R W : Type 0) (before after : Streams R W) (line : List (List ℕ)) (status : ℕ) (runs : RunsLine before after line status) where
   -- the command's run, where memory wasn't refused for reading the line
@@ -524,12 +575,33 @@ module _ (R W : Type 0) (before after : Streams R W) (line : List (List ℕ)) (s
     | inr lacks ↦ all_leave (λ at name. after.writer ≡ before.writer) (asked line) (λ at name. lacks.1.unwritten)
   ]
 
+  -- a recording is replayed, unless memory was refused for reading the line
+  pub replayed : line_faults line ≡ [] → IfReplay (asked line) (λ folder from to only.
+      ReplaysPart before.writer after.writer before.held after.held before.reported after.reported (part_of folder from to only) status
+      ⊎ ((status ≡ 1) × FailsBy before.reported after.reported before.writer after.writer))
+  replayed none = elim (runs.taken none) [
+    | inl run ↦ of_replay R W before after status (λ folder from to only.
+        ReplaysPart before.writer after.writer before.held after.held before.reported after.reported (part_of folder from to only) status
+        ⊎ ((status ≡ 1) × FailsBy before.reported after.reported before.writer after.writer)) (asked line) run
+        (λ folder from to only r. inl r.replayed)
+    | inr lacks ↦ all_replay (λ folder from to only.
+        ReplaysPart before.writer after.writer before.held after.held before.reported after.reported (part_of folder from to only) status
+        ⊎ ((status ≡ 1) × FailsBy before.reported after.reported before.writer after.writer)) (asked line)
+        (λ folder from to only. inr (lacks.1.is, lacks_fails R W before after status lacks))
+  ]
+
+  pub replayed_unread : line_faults line ≡ [] → IfReplay (asked line) (λ folder from to only. after.reader ≡ before.reader)
+  replayed_unread none = elim (runs.taken none) [
+    | inl run ↦ of_replay R W before after status (λ folder from to only. after.reader ≡ before.reader) (asked line) run (λ folder from to only r. r.unread)
+    | inr lacks ↦ all_replay (λ folder from to only. after.reader ≡ before.reader) (asked line) (λ folder from to only. lacks.0)
+  ]
+
   -- `version` writes its text by the end of some file, unless the status says that something failed
   pub told : line_faults line ≡ [] → status ≢ 1 → IfVersion (asked line)
       ((end : List ℕ) × RunsVersion before.held after.held before.reported after.reported end status)
   told none other = of_version R W before after status _ (asked line) (run_of none other) (λ run. (run.told.end, run.told.written other))
 
-  -- unless `node`, `check` or `version` is run, or a node is asked, a refusal writes nothing
+  -- unless `node`, `check`, `replay` or `version` is run, or a node is asked, a refusal writes nothing
   pub unwritten : (line_faults line ≡ [] → NeedsNoMachine (asked line)) → status ≡ 2
       → after.writer ≡ before.writer
   unwritten other two = elim (nil_or (line_faults line)) [

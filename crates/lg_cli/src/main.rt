@@ -6,6 +6,7 @@ mod ending;
 mod node;
 mod output;
 mod program;
+mod replay;
 mod version;
 
 use node::Owned;

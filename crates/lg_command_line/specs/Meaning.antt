@@ -1,4 +1,5 @@
 -- What is right: whoever wants to believe the contracts reads these.
+pub mod Apps
 pub mod Commands
 pub mod Examples
 pub mod KeyExamples

@@ -8,6 +8,7 @@ ghost use Rattle.lg_command_line.specs.Support.Requests.{request_of};
 
 use lg_commands::Numbers;
 use lg_config::Given;
+use lg_timing::Moment;
 
 /// The longest run of a node that is given an end, one day, in milliseconds (this project's choice).
 pub const MAX_RUN_MS: u64 = 86_400_000;
@@ -82,6 +83,18 @@ pub enum Asked<'a> {
         /// The text that should be the node's name, which may be no name. It is empty if the command line has none.
         name: &'a str,
     },
+    /// The command `replay`, with what of a recording it tells.
+    Replay {
+        /// The text that should be the path of the recording's folder, which may be no path.
+        folder: &'a str,
+        /// The first moment of what is told. It is 0 if the command line has none.
+        from: Moment,
+        /// The last moment of what is told. It is the greatest moment if the command line has none.
+        to: Moment,
+        /// The text that should be the name of the member of which is told, which may be no name. It is none if the
+        /// command line has none, and then all is told.
+        only: Option<&'a str>,
+    },
     /// The command `sim`.
     Sim,
     /// The command `version`.
@@ -111,6 +124,7 @@ impl Asked<'_> {
             | Asked::Ask { .. }
             | Asked::Init
             | Asked::Leave { .. }
+            | Asked::Replay { .. }
             | Asked::Sim
             | Asked::Version => true,
         }

@@ -1,12 +1,12 @@
 //! The commands of the program, with their options.
 //!
-//! Defined in: `specs/Meaning/Commands.antt`.
+//! Defined in: `specs/Meaning/Apps.antt`.
 //! Tested in: `cases/command_line.case`, `cases/timeouts_command.case`, `cases/node_command.case`.
 ghost use Rattle.std.specs.Prelude.{◌≡◌, IfOk, false};
 ghost use Rattle.std.specs.List.{fold};
 ghost use Rattle.clap.specs.Simple.{app_of, new_app, with_subcommand};
 ghost use Rattle.clap.specs.declared.builder.command.Command.TheViews.{out-Command as fields_of};
-ghost use Rattle.lg_command_line.specs.Meaning.Commands.{lg_app};
+ghost use Rattle.lg_command_line.specs.Meaning.Apps.{lg_app};
 ghost use Rattle.lg_command_line.specs.Support.Options.{app_of_row, bare_lg, with_key_rule, with_option, with_rows};
 
 use crate::asked::{DEFAULT_AT, MAX_RUN_MS};
@@ -15,7 +15,7 @@ use crate::options::{OptionRow, Takes, option_of};
 use crate::version::VERSION;
 use clap::Command;
 use lg_rules::MAX_MEMBERS;
-use lg_timing::Key;
+use lg_timing::{Key, MAX_MOMENT};
 use std::alloc::{AllocError, Global};
 
 /// A command, as the table of the commands has it.
@@ -50,7 +50,7 @@ const ASK: &[OptionRow<'static>] = &[
 ];
 
 /// The commands, in the order of the help.
-const COMMANDS: [CommandRow<'static>; 12] = [
+const COMMANDS: [CommandRow<'static>; 13] = [
     CommandRow {
         name: "answer",
         about: "Answers packets, a line of hex each, as a detector does",
@@ -178,6 +178,33 @@ const COMMANDS: [CommandRow<'static>; 12] = [
                 id: "name",
                 takes: Takes::OptionalText("NAME"),
                 help: "The node's name; without it, the node is asked for it first",
+            },
+        ],
+        keys: &[],
+    },
+    CommandRow {
+        name: "replay",
+        about: "Replays a recording, and writes what happened and whether each reply is the recorded one",
+        options: &[
+            OptionRow {
+                id: "folder",
+                takes: Takes::Word("FOLDER"),
+                help: "The folder of the recording",
+            },
+            OptionRow {
+                id: "from",
+                takes: Takes::Number(0, MAX_MOMENT),
+                help: "The first moment that is told, in milliseconds by the node's clock; without it, 0",
+            },
+            OptionRow {
+                id: "to",
+                takes: Takes::Number(0, MAX_MOMENT),
+                help: "The last moment that is told; without it, the end of the recording",
+            },
+            OptionRow {
+                id: "only",
+                takes: Takes::OptionalText("NAME"),
+                help: "The member of which is told; without it, all are",
             },
         ],
         keys: &[],

@@ -23,7 +23,7 @@ pub(crate) struct KeyRow<'a> {
 
 /// The options of all keys that a file may have, in the order in which `docs/FORMATS.md` has them. A contract compares
 /// them with the table of the keys.
-pub(crate) const KEY_ROWS: [KeyRow<'static>; 28] = [
+pub(crate) const KEY_ROWS: [KeyRow<'static>; 30] = [
     KeyRow {
         key: "name",
         name: "name",
@@ -65,6 +65,18 @@ pub(crate) const KEY_ROWS: [KeyRow<'static>; 28] = [
         name: "resolve-ms",
         text: "N",
         help: "How often the hosts among the seeds are resolved, in milliseconds",
+    },
+    KeyRow {
+        key: "record_mb",
+        name: "record-mb",
+        text: "N",
+        help: "The most that a recording takes, in units of 1000000 bytes",
+    },
+    KeyRow {
+        key: "record",
+        name: "record",
+        text: "FOLDER",
+        help: "The folder in which the node records what happens to it",
     },
     KeyRow {
         key: "status",

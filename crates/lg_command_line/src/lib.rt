@@ -1,6 +1,7 @@
 //! The command line of the program `lg`: what its words ask for, and what is told if nothing is run.
 //!
 //! Where to read on:
+//! - the commands and their options: `specs/Meaning/Apps.antt`;
 //! - which command a command line asks for, and why one is refused: `specs/Meaning/Commands.antt`;
 //! - the options of the keys of a configuration: `specs/Meaning/KeyOptions.antt`;
 //! - what becomes of a command line that isn't run: `specs/Meaning/Leaving.antt`;

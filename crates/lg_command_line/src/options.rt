@@ -1,12 +1,12 @@
 //! The kinds of options that the commands have.
 //!
-//! Defined in: `specs/Meaning/Commands.antt`.
+//! Defined in: `specs/Meaning/Apps.antt`.
 //! Tested in: `cases/command_line.case`, `cases/timeouts_command.case`, `cases/node_command.case`.
 ghost use Rattle.std.specs.Prelude.{◌≡◌, decimal, false};
 ghost use Rattle.clap.specs.Walk.{rule_of};
 ghost use Rattle.lg_timing.specs.Meaning.Keys.{row_of};
-ghost use Rattle.lg_command_line.specs.Meaning.Commands.{default_rule, default_text_rule, flag_rule};
-ghost use Rattle.lg_command_line.specs.Meaning.Commands.{number_rule, required_rule, text_rule};
+ghost use Rattle.lg_command_line.specs.Meaning.Apps.{default_rule, default_text_rule, flag_rule, number_rule};
+ghost use Rattle.lg_command_line.specs.Meaning.Apps.{required_rule, text_rule, word_rule};
 ghost use Rattle.lg_command_line.specs.Support.Options.{named_rule, rule_of_row, valued_rule};
 
 use clap::builder::ValueParser;
@@ -18,6 +18,8 @@ use std::alloc::Global;
 pub(crate) enum Takes<'a> {
     /// A text, which has this name in the help and has to be given.
     RequiredText(&'a str),
+    /// A text without an option's name before it, which has this name in the help and has to be given.
+    Word(&'a str),
     /// A text, which has this name in the help and needn't be given.
     OptionalText(&'a str),
     /// A text, which has this name in the help, with its default.
@@ -48,6 +50,7 @@ pub(crate) fn option_of<'a>(alloc: Global, row: &OptionRow<'a>) -> Arg<'a>
     let (id, help) = (row.id, row.help);
     match row.takes {
         Takes::RequiredText(text) => text_option(alloc, id, text, help),
+        Takes::Word(text) => word_argument(alloc, id, text, help),
         Takes::OptionalText(text) => valued_option(alloc, id, text, help),
         Takes::DefaultText(text, default) => default_text_option(alloc, id, text, default, help),
         Takes::RequiredNumber(least, most) => {
@@ -85,6 +88,18 @@ fn text_option<'a>(alloc: Global, id: &'a str, text: &'a str, help: &'a str) -> 
     ensures local { result.global ≡ false }
 {
     valued_option(alloc, id, text, help).required(true)
+}
+
+/// A word without an option's name before it, which is required, with its help.
+fn word_argument<'a>(alloc: Global, id: &'a str, text: &'a str, help: &'a str) -> Arg<'a>
+    ensures rule { rule_of result ≡ word_rule id.entry.now }
+    ensures local { result.global ≡ false }
+{
+    Arg::new(alloc, id)
+        .help(help)
+        .value_name(text)
+        .action(ArgAction::Set)
+        .required(true)
 }
 
 /// The option `--ID TEXT`, which has a default, with its help.

@@ -11,10 +11,11 @@ ghost use Rattle.clap.specs.Simple.{app_of, subcommand_rows_of};
 ghost use Rattle.clap.specs.Walk.{first_of, rows_of};
 ghost use Rattle.lg_commands.specs.Meaning.Timeouts.{are_good};
 ghost use Rattle.lg_config.specs.Meaning.Options.{options_of};
+ghost use Rattle.lg_command_line.specs.Meaning.Apps.{lg_app};
 ghost use Rattle.lg_command_line.specs.Meaning.KeyOptions.{given_for, source_in};
 ghost use Rattle.lg_command_line.specs.Meaning.Commands.{ask_of_rows, asked, check, has_good_numbers};
 ghost use Rattle.lg_command_line.specs.Meaning.Commands.{line_faults};
-ghost use Rattle.lg_command_line.specs.Meaning.Commands.{flag_in, lg_app, node_of_rows};
+ghost use Rattle.lg_command_line.specs.Meaning.Commands.{flag_in, moment_in, node_of_rows, replay_of_rows};
 ghost use Rattle.lg_command_line.specs.Meaning.Commands.{number_given, number_in, numbers_in};
 ghost use Rattle.lg_command_line.specs.Meaning.Commands.{request_faults, request_of_rows, text_in};
 ghost use Rattle.lg_command_line.specs.Meaning.Commands.{IfNode, IfTimeouts};
@@ -26,6 +27,7 @@ use clap::error::ErrorKind;
 use clap::{ArgMatches, Command, Error};
 use lg_commands::Numbers;
 use lg_config::{Given, KNOWN_KEYS};
+use lg_timing::{MAX_MOMENT, Moment};
 use std::alloc::{AllocError, Global};
 use std::convert::AsStr;
 
@@ -121,6 +123,7 @@ fn asked_of<'a>(alloc: Global, name: &str, found: &ArgMatches<'a>) -> Result<Ask
             at: text_in(found, "at"),
             name: text_in(found, "name"),
         }),
+        "replay" => Ok(replay_in(found)),
         "version" => Ok(Asked::Version),
         _ => Ok(Asked::Answer {
             name: text_in(found, "name"),
@@ -214,6 +217,18 @@ fn ask_in<'a>(question: Question, found: &ArgMatches<'a>) -> Asked<'a>
     }
 }
 
+/// The command `replay`, with its options.
+fn replay_in<'a>(found: &ArgMatches<'a>) -> Asked<'a>
+    ensures { request_of result ≡ replay_of_rows (rows_of (found_of found.now)) }
+{
+    Asked::Replay {
+        folder: text_in(found, "folder"),
+        from: moment_in(found, "from", Moment::default()),
+        to: moment_in(found, "to", Moment::new(MAX_MOMENT).unwrap()),
+        only: text_given(found, "only"),
+    }
+}
+
 /// The numbers of the options of `timeouts`.
 fn numbers_in(found: &ArgMatches) -> Numbers
     ensures { result ≡ numbers_in (rows_of (found_of found.now)) }
@@ -234,6 +249,16 @@ fn number_given(found: &ArgMatches, id: &str) -> Option<u64>
     match found.get_str(id) {
         Some(_) => Some(number_in(found, id)),
         None => None,
+    }
+}
+
+/// The moment of an option, or this one if it has none. The parser takes no number above the greatest moment.
+fn moment_in(found: &ArgMatches, id: &str, usual: Moment) -> Moment
+    ensures { result ≡ moment_in (rows_of (found_of found.now)) id.now usual }
+{
+    match number_given(found, id) {
+        Some(number) => Moment::new(number).unwrap_or(usual),
+        None => usual,
     }
 }
 

@@ -64,12 +64,14 @@ fn refused_memory(rt: HostRuntime) {
 /// Unknown keys, each with the known key that the reason names. Three edits are few of eight bytes, two of six, and one
 /// of three; four are too many, and so are two of four bytes. Two edits lead from `all_ms` to `pull_ms` and to
 /// `stall_ms`, of which the first counts. The first number of a probe is no key of a file.
-const UNKNOWN_KEYS: [(&str, Option<&str>); 16] = [
+const UNKNOWN_KEYS: [(&str, Option<&str>); 18] = [
     ("intervall_ms", Some("interval_ms")),
     ("interval", Some("interval_ms")),
     ("nack_thousandth", Some("nack_thousandths")),
     ("status_opne", Some("status_open")),
     ("keyfile", Some("key_file")),
+    ("recrod", Some("record")),
+    ("recordmb", Some("record_mb")),
     ("groups", Some("group")),
     ("Port", Some("port")),
     ("por", Some("port")),

@@ -14,8 +14,10 @@ struct Row {
     octets: [u8; 4],
     port: u16,
     dice: u64,
-    /// `pull_ms`, `stall_ms` and `resolve_ms`.
-    own: [u64; 3],
+    /// `pull_ms`, `stall_ms`, `resolve_ms` and `record_mb`.
+    own: [u64; 4],
+    /// The folder of the recording.
+    record_folder: Option<&'static str>,
     /// The numbers, in the order of the keys: from `interval_ms` to `history_limit`, `wire`, `forget_ms`, `gossip_ms`,
     /// `gossip_to`.
     numbers: [u64; 14],
@@ -66,6 +68,8 @@ gossip_to = 8
 pull_ms = 3600000
 stall_ms = 0
 resolve_ms = 1000
+record_mb = 100000
+record = \"/var/lib/lg\"
 status = \"10.1.2.3:8946\"
 status_open = true
 key_file = \"/etc/lg/group.key\"
@@ -162,6 +166,14 @@ const ALL_GIVEN: &[Given<'static>] = &[
         text: "1000",
     },
     Given {
+        key: "record_mb",
+        text: "100000",
+    },
+    Given {
+        key: "record",
+        text: "/var/lib/lg",
+    },
+    Given {
         key: "status",
         text: "10.1.2.3:8946",
     },
@@ -214,6 +226,7 @@ const ALL_GIVEN: &[Given<'static>] = &[
 /// Whether a configuration is that of a row.
 fn is_of(node: &NodeConfig, row: &Row) -> bool {
     let config = &node.config;
+    let own = [node.pull_ms, node.stall_ms, node.resolve_ms, node.record_mb];
     let numbers = [
         config.interval_ms,
         config.timeout_ms,
@@ -233,7 +246,8 @@ fn is_of(node: &NodeConfig, row: &Row) -> bool {
     config.name == name(b"b")
         && (config.addr, node.dice) == (Addr::v4(row.octets, row.port), row.dice)
         && numbers == row.numbers
-        && [node.pull_ms, node.stall_ms, node.resolve_ms] == row.own
+        && own == row.own
+        && node.record_folder.as_ref().map(|path| path.as_str()) == row.record_folder
         && (node.status, node.status_open) == row.status
         && node.key_file.as_ref().map(|path| path.as_str()) == row.key_file
         && config.group == row.group.map(|letters| name(letters))
@@ -258,7 +272,8 @@ fn each_value(rt: HostRuntime) {
         octets: [127, 0, 0, 1],
         port: 7946,
         dice: 2_189_494_717_179_526_441,
-        own: [30_000, 100, 60_000],
+        own: [30_000, 100, 60_000, 64],
+        record_folder: None,
         numbers: USUAL,
         seeds: &[],
         hosts: &[],
@@ -276,7 +291,8 @@ fn each_value(rt: HostRuntime) {
         octets: [10, 1, 2, 3],
         port: 7001,
         dice: 42,
-        own: [3_600_000, 0, 1000],
+        own: [3_600_000, 0, 1000, 100_000],
+        record_folder: Some("/var/lib/lg"),
         numbers: [200, 50, 0, 1, 2, 3, 4, 5, 6, 7, 3, 86_400_000, 0, 8],
         seeds: &[
             (b"c", [127, 0, 0, 1], 7002),
@@ -322,13 +338,14 @@ fn each_value(rt: HostRuntime) {
             ..alone
         },
         Row {
-            text: "name = \"b\"\naddress = \"127.0.0.1\"\nport = 7946\ndice = 1\nstall_ms = 100\nresolve_ms = 60000",
+            text: "name = \"b\"\naddress = \"127.0.0.1\"\nport = 7946\ndice = 1\nstall_ms = 100\nresolve_ms = 60000\n\
+                record_mb = 64",
             dice: 1,
             ..alone
         },
         Row {
-            text: "name = \"b\"\npull_ms = 0\nstall_ms = 60000\nresolve_ms = 3600000",
-            own: [0, 60_000, 3_600_000],
+            text: "name = \"b\"\npull_ms = 0\nstall_ms = 60000\nresolve_ms = 3600000\nrecord_mb = 1",
+            own: [0, 60_000, 3_600_000, 1],
             ..alone
         },
         Row {

@@ -22,6 +22,8 @@ mod pumping;
 #[cfg(test)]
 mod readers;
 #[cfg(test)]
+mod replay;
+#[cfg(test)]
 mod replies;
 #[cfg(test)]
 mod resolving;

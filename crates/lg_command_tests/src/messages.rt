@@ -1,6 +1,6 @@
 //! What faults tell a person: the message of each, with what is allowed and the value at hand.
 use lg_agent::{CloseFault, Refusal};
-use lg_commands::{BadList, LineFault, OrderFault};
+use lg_commands::{BadList, BadPart, LineFault, OrderFault};
 use lg_config::{FileFault, ReadFault};
 use lg_node::{NodeFault, Why};
 use lg_packet::Fault;
@@ -140,6 +140,17 @@ const ORDERS: &[(OrderFault, &str)] = &[
     ),
 ];
 
+const PARTS: &[(BadPart, &str)] = &[
+    (
+        BadPart::Folder,
+        "the folder has to have 1 to 255 bytes of printable ASCII",
+    ),
+    (
+        BadPart::Name,
+        "the name has to have 1 to 32 bytes of A-Z a-z 0-9 . _ -",
+    ),
+];
+
 const FILES: &[(FileFault, &str)] = &[
     (
         FileFault::Config(ConfigFault::Alpha),
@@ -155,7 +166,7 @@ const FILES: &[(FileFault, &str)] = &[
     ),
     (
         FileFault::Value,
-        "a name, an address, a port or a seed is out of its form, or the dice are negative",
+        "a name, an address, a port, a seed or a folder is out of its form, or the dice are negative",
     ),
     (FileFault::Pull, "pull_ms has to be 0 to 3600000"),
     (FileFault::Stall, "stall_ms has to be 0 to 60000"),
@@ -186,6 +197,7 @@ const FILES: &[(FileFault, &str)] = &[
         FileFault::Auto,
         "a member with the address auto has to have a seed",
     ),
+    (FileFault::RecordMb, "record_mb has to be 1 to 100000"),
 ];
 
 const READS: &[(ReadFault, &str)] = &[
@@ -287,6 +299,7 @@ fn faults_have_messages(rt: HostRuntime) {
         ("runs", first_other(alloc, RUNS)),
         ("lines", first_other(alloc, LINES)),
         ("lists", first_other(alloc, ORDERS)),
+        ("parts of recordings", first_other(alloc, PARTS)),
         ("files", first_other(alloc, FILES)),
         ("readings of files", first_other(alloc, READS)),
         ("pairs", first_other(alloc, PAIRS)),

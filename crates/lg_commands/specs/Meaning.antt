@@ -5,6 +5,8 @@ pub mod Examples
 pub mod Faults
 pub mod Init
 pub mod InitExamples
+pub mod ReplayExamples
+pub mod Replaying
 pub mod Running
 pub mod Spelled
 pub mod Timeouts

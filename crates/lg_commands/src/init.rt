@@ -72,6 +72,10 @@ const INIT_TEXT: &str = "\
     # stall_ms = 100\n\
     # How many milliseconds pass from one resolving of the hosts among the seeds to the next.\n\
     # resolve_ms = 60000\n\
+    # The folder in which the node records what happens to it. It records nothing by default. An example:\n\
+    # record = \"/var/lib/lg\"\n\
+    # The most that a recording takes, in units of 1000000 bytes.\n\
+    # record_mb = 64\n\
     # Where the random choices start. By default it is made of name, address and port. An example:\n\
     # dice = 7\n";
 

@@ -1,5 +1,5 @@
 -- How a command line is run, and what becomes of one that isn't.
-use Rattle.std.specs.Prelude.{◌≡◌, ◌≢◌, ◌⊎◌, Bool, IfOk, ℕ, true, List, [], Option}
+use Rattle.std.specs.Prelude.{◌≡◌, ◌≢◌, ◌⊎◌, Bool, IfOk, ℕ, true, List, [], Option, Result, Ok, Err}
 use Rattle.std.specs.Result.{is_err}
 use Rattle.lg_rules.specs.Meaning.Name.{name_of_text}
 use Rattle.lg_text.specs.Meaning.Reporting.{Reported}
@@ -7,8 +7,13 @@ use Rattle.lg_text.specs.Meaning.Running.{ReadsWhole}
 use Rattle.lg_commands.specs.Meaning.Choosing.{order_text}
 use Rattle.lg_commands.specs.Meaning.Running.{FailsBy, RunsAnswer, RunsInit, RunsOrder, RunsSim, RunsTimeouts}
 use Rattle.lg_commands.specs.Meaning.Running.{RunsVersion}
+use Rattle.lg_commands.specs.Meaning.Replaying.{part_of, TellsBadPart}
+use Rattle.lg_commands.specs.declared.replay.BadPart.{BadPart}
+use Rattle.lg_commands.specs.declared.replay.RecordingPart.{RecordingPart}
 use Rattle.lg_commands.specs.declared.timeouts.Numbers.{Numbers}
 use Rattle.lg_config.specs.Meaning.Options.{SourceValue}
+use Rattle.lg_replay.specs.declared.window.Window.{Window}
+use Rattle.lg_replay_run.specs.Meaning.Running.{ReplaysFolder}
 use Rattle.lg_run.specs.Meaning.Checking.{ChecksSource}
 use Rattle.lg_run.specs.Meaning.Running.{RunsSource}
 use Rattle.lg_client.specs.declared.resource.Resource.TheVariants.{Health, Members as KnownMembers}
@@ -18,7 +23,7 @@ use Rattle.lg_client.specs.Meaning.Watching.{WatchesChanges}
 use Rattle.lg_command_line.specs.declared.asked.Question.{Question}
 use Rattle.lg_command_line.specs.declared.asked.Question.TheVariants.{Members, Status, Watch}
 use Rattle.lg_command_line.specs.Meaning.Commands.{Request, answer, ask, check, init, leave, node, order, sim}
-use Rattle.lg_command_line.specs.Meaning.Commands.{timeouts, version}
+use Rattle.lg_command_line.specs.Meaning.Commands.{replay, timeouts, version}
 use Rattle.lg_command_line.specs.Meaning.Commands.{asked, line_faults}
 use Rattle.lg_command_line.specs.Meaning.Leaving.{LacksMemory, LeavesLine}
 
@@ -122,6 +127,28 @@ pub record RunsLeaving {R W : Type 0} (before after : Streams R W) (at name : Li
   pub unread : after.reader ≡ before.reader
   pub unwritten : after.writer ≡ before.writer
 
+-- which entries of a recording a part of it has
+abbrev pub window_of : RecordingPart → Window
+window_of part = record { from = part.from; to = part.to; only = part.only }
+
+-- What `replay` does by the part of a recording that its texts mean: the recording in the folder is replayed. If a text
+-- is bad, that is told, and nothing is written.
+abbrev pub ReplaysPart :
+    {W : Type 0} → (before after : W) (held holds : Option (List ℕ)) (reported reports : Reported)
+    → Result RecordingPart BadPart → (status : ℕ) → Type 0
+ReplaysPart before after held holds reported reports (Ok part) status =
+    ReplaysFolder held holds reported reports part.folder (window_of part) status
+ReplaysPart before after held holds reported reports (Err bad) status =
+    (after ≡ before) × TellsBadPart reported reports (Err bad) status
+
+-- `replay` is run. Nothing is read from the reader.
+pub record RunsReplay
+    {R W : Type 0} (before after : Streams R W) (folder : List ℕ) (from to : ℕ) (only : Option (List ℕ)) (status : ℕ)
+    : Type 0 where
+  pub replayed : ReplaysPart before.writer after.writer before.held after.held before.reported after.reported
+      (part_of folder from to only) status
+  pub unread : after.reader ≡ before.reader
+
 -- What `version` writes, by the end of the program's own file. What a file holds no contract can say.
 pub record TellsVersion
     {W : Type 0} (before after : W) (held holds : Option (List ℕ)) (reported reports : Reported) (status : ℕ)
@@ -158,6 +185,7 @@ RunsRequest before after (check source) status = RunsCheck before after source s
 RunsRequest before after (ask question at json) status = RunsAsking before after question at json status
 RunsRequest before after init status = RunsFirstFile before after status
 RunsRequest before after (leave at name) status = RunsLeaving before after at name status
+RunsRequest before after (replay folder from to only) status = RunsReplay before after folder from to only status
 RunsRequest before after version status = RunsOwnVersion before after status
 
 -- A command line that is taken runs its command, and any other is left; or memory was refused for reading it. Nothing

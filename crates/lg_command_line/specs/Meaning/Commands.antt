@@ -1,149 +1,28 @@
--- The command line of the program.
-use Rattle.std.specs.Prelude.{◌≡◌, ℕ, Bool, true, false, List, []}
-use Rattle.std.specs.Prelude.{◌∷◌, Option, Some, codes, decimal, if◌then◌else◌}
+-- What a command line asks for, and why one is refused.
+use Rattle.std.specs.Prelude.{◌≡◌, ℕ, Bool, true, false, nat_le, List, []}
+use Rattle.std.specs.Prelude.{◌∷◌, Option, codes, if◌then◌else◌}
 use Rattle.std.specs.Prelude.{unwrap_or}
 use Rattle.std.specs.Option.{option_map, option_map_or}
 use Rattle.std.specs.Str.{bytes_eq}
 use Rattle.std.specs.Str.Parse.{digits_value, without_leading_plus}
 use Rattle.clap.specs.Faults.{fault_of}
 use Rattle.clap.specs.Kinds.{IsAmong, Kinds, or_else}
-use Rattle.clap.specs.Simple.{App, new_app, new_rule, subcommand_of, with_rule, with_subcommand, on_top}
+use Rattle.clap.specs.Simple.{subcommand_of}
 use Rattle.clap.specs.ValueTests.{accepts}
-use Rattle.clap.specs.Walk.{Row, Rule, Text, first_of, one_of}
-use Rattle.clap.specs.declared.builder.action.ArgAction.TheVariants.{Set, SetTrue}
+use Rattle.clap.specs.Walk.{Row, Text, first_of, one_of}
 use Rattle.clap.specs.declared.builder.value_parser.ValueParser.TheVariants.{Unsigned}
 use Rattle.clap.specs.declared.error.kind.ErrorKind.{ErrorKind}
 use Rattle.clap.specs.declared.error.kind.ErrorKind.TheVariants.{DisplayHelp, DisplayVersion, ValueValidation}
-use Rattle.lg_rules.specs.Meaning.Bounds.{most_members}
-use Rattle.lg_timing.specs.Meaning.Keys.{is_within, row_of}
-use Rattle.lg_timing.specs.declared.keys.Key.{Key}
-use Rattle.lg_timing.specs.declared.keys.Key.TheVariants.{Alpha, Beta, Confirmations, IntervalMs}
+use Rattle.lg_timing.specs.Meaning.Keys.{is_within}
+use Rattle.lg_timing.specs.declared.moment.TheConstants.{MAX_MOMENT}
 use Rattle.lg_config.specs.Meaning.Options.{SourceValue}
-use Rattle.lg_command_line.specs.Meaning.KeyOptions.{source_in, with_key_options}
-use Rattle.lg_command_line.specs.Meaning.Ranges.{default_at, most_run_ms}
+use Rattle.lg_command_line.specs.Meaning.Apps.{lg_app}
+use Rattle.lg_command_line.specs.Meaning.KeyOptions.{source_in}
+use Rattle.lg_command_line.specs.Meaning.Ranges.{most_run_ms}
 use Rattle.lg_command_line.specs.declared.asked.Question.{Question}
 use Rattle.lg_command_line.specs.declared.asked.Question.TheVariants.{Members, Status, Watch}
 use Rattle.lg_commands.specs.Meaning.Timeouts.{are_good}
 use Rattle.lg_commands.specs.declared.timeouts.Numbers.{Numbers}
-
--- an option `--ID TEXT`, which is required
-abbrev pub text_rule : Text → Rule
-text_rule id =
-    let named = record (new_rule id) { long = Some id; value_names = 1 } in
-    record named { required = true; action = Some Set }
-
-abbrev pub answer_app : App
-answer_app = with_rule (new_app (codes "answer")) (text_rule (codes "name"))
-
-abbrev pub order_app : App
-order_app = with_rule (with_rule (new_app (codes "order")) (text_rule (codes "names"))) (text_rule (codes "words"))
-
--- an option `--ID N`, a number that is at least `least` and at most `most`
-abbrev pub number_rule : Text → ℕ → ℕ → Rule
-number_rule id least most =
-    record (new_rule id) { long = Some id; value_names = 1; parser = Some (Unsigned least most); action = Some Set }
-
--- an option `--ID` that takes no value
-abbrev pub flag_rule : Text → Rule
-flag_rule id = record (new_rule id) { long = Some id; action = Some SetTrue }
-
-abbrev pub required_rule : Rule → Rule
-required_rule rule = record rule { required = true }
-
-abbrev pub default_rule : Rule → Text → Rule
-default_rule rule value = record rule { defaults = value ∷ [] }
-
-abbrev pub members_rule : Rule
-members_rule = required_rule (number_rule (codes "members") 1 most_members)
-
--- an option `--ID N` of a number of the configuration, which has the range and the default of its key; a 0 below the
--- range is refused, so no option is of a key whose 0 turns something off
-abbrev pub key_rule : Text → Key → Rule
-key_rule id key =
-    let row = row_of key in
-    default_rule (number_rule id row.least row.most) (decimal row.default)
-
-abbrev pub confirmations_rule : Rule
-confirmations_rule = key_rule (codes "confirmations") Confirmations
-
-abbrev pub alpha_rule : Rule
-alpha_rule = key_rule (codes "alpha") Alpha
-
-abbrev pub beta_rule : Rule
-beta_rule = key_rule (codes "beta") Beta
-
-abbrev pub interval_rule : Rule
-interval_rule = key_rule (codes "interval-ms") IntervalMs
-
-abbrev pub timeouts_app : App
-timeouts_app =
-    let numbers = with_rule (with_rule (new_app (codes "timeouts")) members_rule) confirmations_rule in
-    with_rule (with_rule (with_rule numbers alpha_rule) beta_rule) interval_rule
-
-abbrev pub sim_app : App
-sim_app = new_app (codes "sim")
-
-abbrev pub for_ms_rule : Rule
-for_ms_rule = number_rule (codes "for-ms") 1 most_run_ms
-
--- an option `--ID TEXT`, which needn't be given
-abbrev pub optional_text_rule : Text → Rule
-optional_text_rule id = record (new_rule id) { long = Some id; value_names = 1; action = Some Set }
-
--- the file of a configuration
-abbrev pub config_rule : Rule
-config_rule = optional_text_rule (codes "config")
-
--- no option has to be given
-abbrev pub node_app : App
-node_app =
-    let numbered = with_rule (with_rule (new_app (codes "node")) config_rule) for_ms_rule in
-    let followed = with_rule numbered (flag_rule (codes "follow")) in
-    with_key_options (with_rule followed (flag_rule (codes "until-input-ends")))
-
-abbrev pub check_app : App
-check_app = with_key_options (with_rule (new_app (codes "check")) config_rule)
-
--- this command has no options
-abbrev pub init_app : App
-init_app = new_app (codes "init")
-
--- an option `--ID TEXT` that has a default
-abbrev pub default_text_rule : Text → Text → Rule
-default_text_rule id value = default_rule (optional_text_rule id) value
-
--- where the status server of a running node listens
-abbrev pub at_rule : Rule
-at_rule = default_text_rule (codes "at") default_at
-
--- a command of this name that asks a running node, whose options needn't be given
-abbrev pub ask_app : Text → App
-ask_app name = with_rule (with_rule (new_app name) at_rule) (flag_rule (codes "json"))
-
--- a program with the commands that ask a running node, behind those that it has
-abbrev pub with_questions : App → App
-with_questions lg =
-    let members = with_subcommand lg (ask_app (codes "members")).top in
-    with_subcommand (with_subcommand members (ask_app (codes "status")).top) (ask_app (codes "watch")).top
-
--- the command that tells a running node to leave its group, whose options needn't be given
-abbrev pub leave_app : App
-leave_app = with_rule (with_rule (new_app (codes "leave")) at_rule) (optional_text_rule (codes "name"))
-
--- this command has no options
-abbrev pub version_app : App
-version_app = new_app (codes "version")
-
--- The program has the commands `answer`, `order`, `timeouts`, `sim`, `node`, `check` and `init`, and `members`,
--- `status`, `watch` and `leave`, which ask a running node, and `version`. One of them has to be named. It has a
--- version, which `--version` and `-V` ask for.
-abbrev pub lg_app : App
-lg_app =
-    let lg = on_top (λ s. record s { has_version = true; subcommand_required = true }) (new_app (codes "lg")) in
-    let first = with_subcommand (with_subcommand (with_subcommand lg answer_app.top) order_app.top) timeouts_app.top in
-    let others = with_subcommand (with_subcommand (with_subcommand first sim_app.top) node_app.top) check_app.top in
-    let asking = with_subcommand (with_questions (with_subcommand others init_app.top)) leave_app.top in
-    with_subcommand asking version_app.top
 
 -- the text of an option, or an empty text if it has none
 abbrev pub text_in : List Row → Text → Text
@@ -162,6 +41,13 @@ number_in rows id = option_map_or option_number (one_of id rows) 0
 abbrev pub number_given : List Row → Text → Option ℕ
 number_given rows id = option_map (λ _. number_in rows id) (first_of id rows)
 
+-- the moment of an option, or this one if it has none; the parser takes no number above the greatest moment
+abbrev pub moment_among : ℕ → ℕ → ℕ
+moment_among usual number = if nat_le number MAX_MOMENT then number else usual
+
+abbrev pub moment_in : List Row → Text → ℕ → ℕ
+moment_in rows id usual = option_map_or (moment_among usual) (number_given rows id) usual
+
 -- whether an option that takes no value was given: the parser gives it the text `true`, and else `false`
 abbrev pub flag_in : List Row → Text → Bool
 flag_in rows id = option_map_or (λ text. bytes_eq text (codes "true")) (one_of id rows) false
@@ -179,6 +65,8 @@ numbers_in rows = record {
 -- for how many milliseconds it runs if it was said, whether it follows what changes, and whether it ends with its
 -- input. For a question to a running node they are the text of its address, and whether the answers are written as they
 -- come. For `leave` they are the text of the node's address, and that of its name, which is empty if none was given.
+-- For `replay` they are the text of the folder, the first and the last moment of what is told, and the text of a
+-- member's name, if one was given.
 pub data Request : Type 0 where
   answer : Text → Request
   order : Text → Text → Request
@@ -189,6 +77,7 @@ pub data Request : Type 0 where
   ask : Question → Text → Bool → Request
   init : Request
   leave : Text → Text → Request
+  replay : Text → ℕ → ℕ → Option Text → Request
   version : Request
 
 -- whether the command of this name was met
@@ -208,6 +97,12 @@ node_of_rows rows = node (source_in rows) (number_given rows (codes "for-ms"))
 abbrev pub ask_of_rows : Question → List Row → Request
 ask_of_rows question rows = ask question (text_in rows (codes "at")) (flag_in rows (codes "json"))
 
+-- `replay` with its options
+abbrev pub replay_of_rows : List Row → Request
+replay_of_rows rows =
+    replay (text_in rows (codes "folder")) (moment_in rows (codes "from") 0)
+    (moment_in rows (codes "to") MAX_MOMENT) (first_of (codes "only") rows)
+
 -- the command that was met, with its options
 abbrev pub request_of_rows : Option (Text × List Row) → Request
 request_of_rows met =
@@ -222,6 +117,7 @@ request_of_rows met =
     else if is_met (codes "watch") met then ask_of_rows Watch rows
     else if is_met (codes "init") met then init
     else if is_met (codes "leave") met then leave (text_in rows (codes "at")) (text_in rows (codes "name"))
+    else if is_met (codes "replay") met then replay_of_rows rows
     else if is_met (codes "version") met then version
     else answer (text_in rows (codes "name"))
 
@@ -240,6 +136,7 @@ has_good_numbers (check source) = true
 has_good_numbers (ask question at json) = true
 has_good_numbers init = true
 has_good_numbers (leave at name) = true
+has_good_numbers (replay folder from to only) = true
 has_good_numbers version = true
 
 -- the fault of numbers that aren't good
@@ -261,6 +158,7 @@ IfAnswer (check source) P = Unit {0}
 IfAnswer (ask question at json) P = Unit {0}
 IfAnswer init P = Unit {0}
 IfAnswer (leave at name) P = Unit {0}
+IfAnswer (replay folder from to only) P = Unit {0}
 IfAnswer version P = Unit {0}
 
 -- a fact about the two texts of `order`: its names and its words
@@ -274,6 +172,7 @@ IfOrder (check source) P = Unit {0}
 IfOrder (ask question at json) P = Unit {0}
 IfOrder init P = Unit {0}
 IfOrder (leave at name) P = Unit {0}
+IfOrder (replay folder from to only) P = Unit {0}
 IfOrder version P = Unit {0}
 
 -- a fact about the numbers of `timeouts`
@@ -287,6 +186,7 @@ IfTimeouts (check source) P = Unit {0}
 IfTimeouts (ask question at json) P = Unit {0}
 IfTimeouts init P = Unit {0}
 IfTimeouts (leave at name) P = Unit {0}
+IfTimeouts (replay folder from to only) P = Unit {0}
 IfTimeouts version P = Unit {0}
 
 -- a fact that holds if `sim` is asked for
@@ -300,6 +200,7 @@ IfSim (check source) P = Unit {0}
 IfSim (ask question at json) P = Unit {0}
 IfSim init P = Unit {0}
 IfSim (leave at name) P = Unit {0}
+IfSim (replay folder from to only) P = Unit {0}
 IfSim version P = Unit {0}
 
 -- a fact about the options of `node`: where its configuration comes from, its time, whether it follows, and whether it
@@ -314,6 +215,7 @@ IfNode (check source) P = Unit {0}
 IfNode (ask question at json) P = Unit {0}
 IfNode init P = Unit {0}
 IfNode (leave at name) P = Unit {0}
+IfNode (replay folder from to only) P = Unit {0}
 IfNode version P = Unit {0}
 
 -- a fact about where the configuration of `check` comes from
@@ -327,6 +229,7 @@ IfCheck (check source) P = P source
 IfCheck (ask question at json) P = Unit {0}
 IfCheck init P = Unit {0}
 IfCheck (leave at name) P = Unit {0}
+IfCheck (replay folder from to only) P = Unit {0}
 IfCheck version P = Unit {0}
 
 -- a fact about a question to a running node, the text of its address, and whether the answers are written as they come
@@ -340,6 +243,7 @@ IfAsk (check source) P = Unit {0}
 IfAsk (ask question at json) P = P question at json
 IfAsk init P = Unit {0}
 IfAsk (leave at name) P = Unit {0}
+IfAsk (replay folder from to only) P = Unit {0}
 IfAsk version P = Unit {0}
 
 -- a fact that holds if `init` is asked for
@@ -353,6 +257,7 @@ IfInit (check source) P = Unit {0}
 IfInit (ask question at json) P = Unit {0}
 IfInit init P = P
 IfInit (leave at name) P = Unit {0}
+IfInit (replay folder from to only) P = Unit {0}
 IfInit version P = Unit {0}
 
 -- a fact about the two texts of `leave`: the node's address and its name
@@ -366,7 +271,22 @@ IfLeave (check source) P = Unit {0}
 IfLeave (ask question at json) P = Unit {0}
 IfLeave init P = Unit {0}
 IfLeave (leave at name) P = P at name
+IfLeave (replay folder from to only) P = Unit {0}
 IfLeave version P = Unit {0}
+
+-- a fact about the options of `replay`: the text of the folder, two moments, and the text of a member's name
+abbrev pub IfReplay : Request → (Text → ℕ → ℕ → Option Text → Type 0) → Type 0
+IfReplay (answer text) P = Unit {0}
+IfReplay (order names words) P = Unit {0}
+IfReplay (timeouts numbers) P = Unit {0}
+IfReplay sim P = Unit {0}
+IfReplay (node source for_ms follow until_input_ends) P = Unit {0}
+IfReplay (check source) P = Unit {0}
+IfReplay (ask question at json) P = Unit {0}
+IfReplay init P = Unit {0}
+IfReplay (leave at name) P = Unit {0}
+IfReplay (replay folder from to only) P = P folder from to only
+IfReplay version P = Unit {0}
 
 -- a fact that holds if `version` is asked for
 abbrev pub IfVersion : Request → Type 0 → Type 0
@@ -379,6 +299,7 @@ IfVersion (check source) P = Unit {0}
 IfVersion (ask question at json) P = Unit {0}
 IfVersion init P = Unit {0}
 IfVersion (leave at name) P = Unit {0}
+IfVersion (replay folder from to only) P = Unit {0}
 IfVersion version P = P
 
 -- the status of a command line that isn't run: 0 if it asks for help or for the version

@@ -8,7 +8,7 @@ use Rattle.lg_timing.specs.Meaning.Keys.{row_of}
 use Rattle.clap.specs.Walk.{Text}
 use Rattle.lg_config.specs.Meaning.Options.{SourceValue}
 use Rattle.lg_command_line.specs.Meaning.Commands.{answer, ask, check, init, leave, node, order, timeouts}
-use Rattle.lg_command_line.specs.Meaning.Commands.{version}
+use Rattle.lg_command_line.specs.Meaning.Commands.{replay, version}
 use Rattle.lg_command_line.specs.Meaning.Commands.{asked, line_faults}
 use Rattle.lg_command_line.specs.declared.asked.Question.TheVariants.{Members, Status, Watch}
 
@@ -264,6 +264,62 @@ two-nodes = refl
 no-json-of-a-leave : line_faults (codes "lg" ∷ codes "leave" ∷ codes "--json" ∷ []) ≡ kind.UnknownArgument ∷ []
 unfolding line_faults asked clap_on_literals
 no-json-of-a-leave = refl
+
+-- without options all of a recording is told
+whole-recording :
+    asked (codes "lg" ∷ codes "replay" ∷ codes "/var/lib/lg" ∷ [])
+    ≡ replay (codes "/var/lib/lg") 0 1000000000000000 None
+unfolding asked clap_on_literals
+whole-recording = refl
+
+whole-recording-taken : line_faults (codes "lg" ∷ codes "replay" ∷ codes "/var/lib/lg" ∷ []) ≡ []
+unfolding line_faults asked clap_on_literals
+whole-recording-taken = refl
+
+part-of-recording :
+    asked (codes "lg" ∷ codes "replay" ∷ codes "--from=5" ∷ codes "a" ∷ codes "--to" ∷ codes "70"
+    ∷ codes "--only=b" ∷ [])
+    ≡ replay (codes "a") 5 70 (Some (codes "b"))
+unfolding asked clap_on_literals
+part-of-recording = refl
+
+-- moments the wrong way round are no fault: nothing is told then
+moments-turned : line_faults (codes "lg" ∷ codes "replay" ∷ codes "a" ∷ codes "--from=2" ∷ codes "--to=1" ∷ []) ≡ []
+unfolding line_faults asked clap_on_literals
+moments-turned = refl
+
+greatest-moment :
+    line_faults (codes "lg" ∷ codes "replay" ∷ codes "a" ∷ codes "--from=1000000000000000" ∷ []) ≡ []
+unfolding line_faults asked clap_on_literals
+greatest-moment = refl
+
+beyond-all-moments :
+    line_faults (codes "lg" ∷ codes "replay" ∷ codes "a" ∷ codes "--to=1000000000000001" ∷ [])
+    ≡ kind.ValueValidation ∷ []
+unfolding line_faults asked clap_on_literals
+beyond-all-moments = refl
+
+no-moment : line_faults (codes "lg" ∷ codes "replay" ∷ codes "a" ∷ codes "--from=1s" ∷ []) ≡ kind.ValueValidation ∷ []
+unfolding line_faults asked clap_on_literals
+no-moment = refl
+
+no-folder : line_faults (codes "lg" ∷ codes "replay" ∷ []) ≡ kind.MissingRequiredArgument ∷ []
+unfolding line_faults asked clap_on_literals
+no-folder = refl
+
+two-folders : line_faults (codes "lg" ∷ codes "replay" ∷ codes "a" ∷ codes "b" ∷ []) ≡ kind.UnknownArgument ∷ []
+unfolding line_faults asked clap_on_literals
+two-folders = refl
+
+-- the folder and the name are judged after the command line is taken
+any-folder : line_faults (codes "lg" ∷ codes "replay" ∷ [] ∷ codes "--only=a/b" ∷ []) ≡ []
+unfolding line_faults asked clap_on_literals
+any-folder = refl
+
+told-twice : line_faults (codes "lg" ∷ codes "replay" ∷ codes "a" ∷ codes "--only=b" ∷ codes "--only=b" ∷ [])
+    ≡ kind.ArgumentConflict ∷ []
+unfolding line_faults asked clap_on_literals
+told-twice = refl
 
 the-version : asked (codes "lg" ∷ codes "version" ∷ []) ≡ version
 unfolding asked clap_on_literals

@@ -10,10 +10,11 @@ use Rattle.lg_command_line.specs.Meaning.KeyOptions.{option_name}
 names :
     map option_name known_keys
     ≡ codes "name" ∷ codes "address" ∷ codes "port" ∷ codes "dice" ∷ codes "pull-ms" ∷ codes "stall-ms"
-    ∷ codes "resolve-ms" ∷ codes "status" ∷ codes "status-open" ∷ codes "leave" ∷ codes "bind" ∷ codes "key-file"
-    ∷ codes "group" ∷ codes "seed" ∷ codes "interval-ms" ∷ codes "timeout-ms" ∷ codes "indirect" ∷ codes "max-score"
-    ∷ codes "alpha" ∷ codes "beta" ∷ codes "confirmations" ∷ codes "lambda" ∷ codes "nack-thousandths"
-    ∷ codes "history-limit" ∷ codes "wire" ∷ codes "forget-ms" ∷ codes "gossip-ms" ∷ codes "gossip-to" ∷ []
+    ∷ codes "resolve-ms" ∷ codes "record-mb" ∷ codes "record" ∷ codes "status" ∷ codes "status-open" ∷ codes "leave"
+    ∷ codes "bind" ∷ codes "key-file" ∷ codes "group" ∷ codes "seed" ∷ codes "interval-ms" ∷ codes "timeout-ms"
+    ∷ codes "indirect" ∷ codes "max-score" ∷ codes "alpha" ∷ codes "beta" ∷ codes "confirmations" ∷ codes "lambda"
+    ∷ codes "nack-thousandths" ∷ codes "history-limit" ∷ codes "wire" ∷ codes "forget-ms" ∷ codes "gossip-ms"
+    ∷ codes "gossip-to" ∷ []
 names = refl
 
 -- a node of one line

@@ -5,15 +5,15 @@ use Rattle.clap.specs.Simple.{App, new_app, new_rule, on_top, with_rule, with_su
 use Rattle.clap.specs.Walk.{Rule, Text}
 use Rattle.clap.specs.declared.builder.action.ArgAction.TheVariants.{Set}
 use Rattle.lg_timing.specs.Meaning.Keys.{row_of}
-use Rattle.lg_command_line.specs.Meaning.Commands.{default_rule, default_text_rule, flag_rule, number_rule}
+use Rattle.lg_command_line.specs.Meaning.Apps.{default_rule, default_text_rule, flag_rule, number_rule}
+use Rattle.lg_command_line.specs.Meaning.Apps.{optional_text_rule, required_rule, text_rule, word_rule}
 use Rattle.lg_command_line.specs.Meaning.KeyOptions.{key_action}
-use Rattle.lg_command_line.specs.Meaning.Commands.{optional_text_rule, required_rule, text_rule}
 use Rattle.lg_command_line.specs.declared.command.CommandRow.{CommandRow}
 use Rattle.lg_command_line.specs.declared.key_options.KeyRow.{KeyRow}
 use Rattle.lg_command_line.specs.declared.options.OptionRow.{OptionRow}
 use Rattle.lg_command_line.specs.declared.options.Takes.{Takes}
 use Rattle.lg_command_line.specs.declared.options.Takes.TheVariants.{DefaultText, Nothing, Number, OfKey}
-use Rattle.lg_command_line.specs.declared.options.Takes.TheVariants.{OptionalText, RequiredNumber, RequiredText}
+use Rattle.lg_command_line.specs.declared.options.Takes.TheVariants.{OptionalText, RequiredNumber, RequiredText, Word}
 
 -- an option `--ID`
 abbrev pub named_rule : Text → Rule
@@ -26,6 +26,7 @@ valued_rule id = record (named_rule id) { value_names = 1; action = Some Set }
 -- an option of this name, which takes this
 abbrev pub rule_taking : Text → Takes → Rule
 rule_taking id (RequiredText name) = text_rule id
+rule_taking id (Word name) = word_rule id
 rule_taking id (OptionalText name) = optional_text_rule id
 rule_taking id (DefaultText name default) = default_text_rule id default.now
 rule_taking id (RequiredNumber least most) = required_rule (number_rule id least most)

@@ -6,10 +6,10 @@ use Rattle.clap.specs.Walk.{Text}
 use Rattle.lg_config.specs.declared.given.Given.{Given}
 use Rattle.lg_config.specs.Meaning.Options.{options_of, SourceValue}
 use Rattle.lg_command_line.specs.Meaning.Commands.{Request, answer, ask, check, init, leave, node, order, sim, timeouts}
-use Rattle.lg_command_line.specs.Meaning.Commands.{version}
+use Rattle.lg_command_line.specs.Meaning.Commands.{replay, version}
 use Rattle.lg_command_line.specs.declared.asked.Asked.{Asked}
 use Rattle.lg_command_line.specs.declared.asked.Asked.TheVariants.{Answer, Ask, Check, Init, Leave, Node, Order}
-use Rattle.lg_command_line.specs.declared.asked.Asked.TheVariants.{Sim, Timeouts, Version}
+use Rattle.lg_command_line.specs.declared.asked.Asked.TheVariants.{Replay, Sim, Timeouts, Version}
 
 -- where a configuration comes from, by the path of a file and what options give
 abbrev pub source_with : Option (Bor Text) → List Given → SourceValue
@@ -26,4 +26,5 @@ request_of (Check file given) = check (source_with file given.items)
 request_of (Ask question at json) = ask question at.now json
 request_of Init = init
 request_of (Leave at name) = leave at.now name.now
+request_of (Replay folder from to only) = replay folder.now from to (option_map (λ text. text.now) only)
 request_of Version = version

@@ -1,7 +1,7 @@
 //! Runs of nodes and of files, over writers that fail.
 use crate::ports::{free_port, with_port};
 use lg_config::Source as Origin;
-use lg_run::{FaultStreams, Wishes, file_bytes, run_bytes, tell_no_bytes};
+use lg_run::{FaultStreams, RecordFolders, Wishes, file_bytes, run_bytes, tell_no_bytes};
 use lg_testing::{Room, at};
 use std::alloc::{AllocError, Global};
 use std::net::{Net, TcpListener, TcpStream};
@@ -74,7 +74,14 @@ fn run<R>(
     fails_at: usize,
 ) -> Result<Outcome, AllocError>
 where
-    R: AllocGlobal + Wait + Threads + rt::Clock + Files + RandomSource + FaultStreams,
+    R: AllocGlobal
+        + Wait
+        + Threads
+        + rt::Clock
+        + Files
+        + RandomSource
+        + FaultStreams
+        + RecordFolders,
     R: Net<Listener = TcpListener, Stream = TcpStream> + Copy + Send + Sync + 'static,
 {
     let (mut writer, mut faults) = (Room::failing(fails_at), Room::failing(0));
@@ -104,7 +111,14 @@ const TRIES: usize = 10;
 /// Whether the run of a row at a free port ends as it should.
 fn ends_so<R>(rt: &R, alloc: Global, row: Row) -> io::Result<bool>
 where
-    R: AllocGlobal + Wait + Threads + rt::Clock + Files + RandomSource + FaultStreams,
+    R: AllocGlobal
+        + Wait
+        + Threads
+        + rt::Clock
+        + Files
+        + RandomSource
+        + FaultStreams
+        + RecordFolders,
     R: Net<Listener = TcpListener, Stream = TcpStream> + Copy + Send + Sync + 'static,
 {
     let (source, fails_at, status, written, told) = row;

@@ -4,7 +4,7 @@ ghost use Rattle.lg_timing.specs.Meaning.Config.{IsChecked};
 use arrayvec::ArrayVec;
 use lg_agent::{CloseFault, Refusal};
 use lg_loops::NodeLoops;
-use lg_node::{NodeEnd, NodeFault, NodeStart, ResolvedSeeds, Settings, Why, run_node};
+use lg_node::{NodeEnd, NodeFault, NodeStart, ResolvedSeeds, Settings, Unrecorded, Why, run_node};
 use lg_rules::{Addr, Name};
 use lg_run::Told;
 use lg_testing::{Room, at};
@@ -219,7 +219,14 @@ where
         stop: &stop,
         resolved: &resolved,
     };
-    run_node(rt, alloc, &start, &mut unread, &mut untold)
+    run_node(
+        rt,
+        alloc,
+        &start,
+        None::<Unrecorded>,
+        &mut unread,
+        &mut untold,
+    )
 }
 
 /// A node that ran. A run fails if memory is refused, and while another program has the port for a moment.

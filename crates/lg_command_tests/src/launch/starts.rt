@@ -1,7 +1,7 @@
 //! What is announced of a node before it starts.
 use crate::ports::{free_port, with_port};
 use lg_config::{Given, Source};
-use lg_run::{FaultStreams, Wishes, run_bytes};
+use lg_run::{FaultStreams, RecordFolders, Wishes, run_bytes};
 use lg_testing::{Room, at};
 use std::alloc::Global;
 use std::net::{Net, TcpListener, TcpStream};
@@ -102,7 +102,14 @@ const ROWS: [Row; 8] = [
 /// Runs the node of a row at a free port. Returns whether it ended with status 0, and told what the row says.
 fn runs<R>(rt: &R, alloc: Global, row: Row) -> io::Result<bool>
 where
-    R: AllocGlobal + Wait + Threads + rt::Clock + Files + RandomSource + FaultStreams,
+    R: AllocGlobal
+        + Wait
+        + Threads
+        + rt::Clock
+        + Files
+        + RandomSource
+        + FaultStreams
+        + RecordFolders,
     R: Net<Listener = TcpListener, Stream = TcpStream> + Copy + Send + Sync + 'static,
 {
     let (source, line, until, follow, told) = row;

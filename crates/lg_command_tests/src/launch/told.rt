@@ -92,7 +92,7 @@ const ENDS: [(Of, u8, &str); 25] = [
 ];
 
 /// Each fault of a file with its number and its line.
-const FAULTS: [(FileFault, u8, &str); 31] = [
+const FAULTS: [(FileFault, u8, &str); 32] = [
     (
         FileFault::Config(ConfigFault::Interval),
         1,
@@ -156,6 +156,7 @@ const FAULTS: [(FileFault, u8, &str); 31] = [
     (FileFault::Family, 29, "lg: config 29\n"),
     (FileFault::Resolve, 30, "lg: config 30\n"),
     (FileFault::Auto, 31, "lg: config 31\n"),
+    (FileFault::RecordMb, 32, "lg: config 32\n"),
 ];
 
 /// Each end has its status and its line, and each fault of a file its number, the status 3 and its line.

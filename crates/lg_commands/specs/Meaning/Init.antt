@@ -73,6 +73,10 @@ init_lines =
     ∷ codes "# stall_ms = 100"
     ∷ codes "# How many milliseconds pass from one resolving of the hosts among the seeds to the next."
     ∷ codes "# resolve_ms = 60000"
+    ∷ codes "# The folder in which the node records what happens to it. It records nothing by default. An example:"
+    ∷ codes "# record = \"/var/lib/lg\""
+    ∷ codes "# The most that a recording takes, in units of 1000000 bytes."
+    ∷ codes "# record_mb = 64"
     ∷ codes "# Where the random choices start. By default it is made of name, address and port. An example:"
     ∷ codes "# dice = 7"
     ∷ []

@@ -33,6 +33,7 @@ without-default = refl
 -- the node's own numbers have their defaults in comments
 own-numbers :
     list_all (λ line. list_any (bytes_eq line) init_lines)
-    (codes "# pull_ms = 30000" ∷ codes "# stall_ms = 100" ∷ codes "# resolve_ms = 60000" ∷ [])
+    (codes "# pull_ms = 30000" ∷ codes "# stall_ms = 100" ∷ codes "# resolve_ms = 60000"
+    ∷ codes "# record_mb = 64" ∷ [])
     ≡ true
 own-numbers = refl

@@ -1,7 +1,7 @@
 use Rattle.std.proofs.Common.{refl}
 use Rattle.std.specs.Fmt.{digits}
 use Rattle.std.proofs.lemmas.Result.{IfOk-weaker}
-use Rattle.lg_command_line.specs.Meaning.Commands.{lg_app}
+use Rattle.lg_command_line.specs.Meaning.Apps.{lg_app}
 use Rattle.lg_command_line.proofs.CommandLaws.{program_is}
 use Rattle.lg_command_line.proofs.command.lg_command.Goals as goal
 

@@ -3,7 +3,8 @@ use Rattle.std.proofs.lemmas.Result.{IfOk-weaker}
 use Rattle.clap.specs.Faults.{fault_of, is_simple_and_free}
 use Rattle.clap.specs.Kinds.{FailsBy, HasKind, Kinds, or_else}
 use Rattle.clap.specs.Simple.{App, is_simple, subcommand_of}
-use Rattle.lg_command_line.specs.Meaning.Commands.{asked, lg_app, line_faults, request_faults, request_of_rows}
+use Rattle.lg_command_line.specs.Meaning.Apps.{lg_app}
+use Rattle.lg_command_line.specs.Meaning.Commands.{asked, line_faults, request_faults, request_of_rows}
 use Rattle.lg_command_line.specs.Support.Requests.{request_of}
 use Rattle.lg_command_line.proofs.CommandLaws.{kind_of_first}
 use Rattle.lg_command_line.proofs.words.read_with.Goals as goal
