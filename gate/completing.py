@@ -4,8 +4,8 @@ In none of them a word that is the value of another option is taken as the comma
 """
 
 MADE_BY = "Made by gate/completions of the help of the program."
-# The name of a value that is a file.
-FILE = "FILE"
+# The names of a value that is a file, and of one that is a folder.
+FILE, FOLDER = "FILE", "FOLDER"
 
 
 def quoted(text):
@@ -41,6 +41,10 @@ _lg() {{
     {files})
       # Nothing is offered here, and so readline offers files.
       compopt -o default
+      return
+      ;;
+    {folders})
+      compopt -o dirnames
       return
       ;;
 {choices}
@@ -99,8 +103,9 @@ def bash(lg, commands):
     return BASH.format(
         made_by=MADE_BY,
         files=pattern(options, lambda option: option.value == FILE),
+        folders=pattern(options, lambda option: option.value == FOLDER),
         choices="\n".join(f"    {name}) words={listed(these)} ;;" for name, these in choices),
-        others=pattern(options, lambda option: option.value not in ("", FILE) and not option.choices()),
+        others=pattern(options, lambda option: option.value not in ("", FILE, FOLDER) and not option.choices()),
         options=listed(names_of(lg.options)),
         commands=listed(names_of(commands)),
         rows="\n".join(f"        *:{name}) words={listed(these)} ;;" for name, these in words),
@@ -145,7 +150,8 @@ def zsh_option(option):
         names = f"{{{option.short},{option.name}}}" if option.short else ""
         # Behind -h and -V nothing else counts.
         return f"'(- *)'{names}{quoted(f'[{about}]')}" if names else quoted(f"{option.name}[{about}]")
-    offered = "_files" if option.value == FILE else f"({' '.join(option.choices())})" if option.choices() else " "
+    offered = f"({' '.join(option.choices())})" if option.choices() else " "
+    offered = {FILE: "_files", FOLDER: "_files -/"}.get(option.value, offered)
     value = option.value.replace(":", r"\:")
     return quoted(f"{'*' if option.repeats() else ''}{option.name}=[{about}]:{value}:{offered}")
 
@@ -197,6 +203,8 @@ def fish_option(condition, option):
     words += [f"-s {option.short[1:]}"] if option.short else []
     if option.value == FILE:
         words.append("-r -F")
+    elif option.value == FOLDER:
+        words.append("-x -a '(__fish_complete_directories)'")
     elif option.value:
         words.append(f"-x -a {fish_quoted(' '.join(option.choices()))}" if option.choices() else "-x")
     return " ".join([*words, f"-d {fish_quoted(option.about)}"])

@@ -155,7 +155,11 @@ class Fish:
             return f"{text}: {' '.join(offered)}"
         # A space behind a backslash ends no word.
         begin = text.replace(r"\ ", "__").rindex(" ") + 1
-        return text[:begin] + offered[0].replace(" ", r"\ ") + " " if offered else text
+        if not offered:
+            return text
+        # Behind a folder the line may go on with what is in it.
+        behind = "" if offered[0].endswith("/") else " "
+        return text[:begin] + offered[0].replace(" ", r"\ ") + behind
 
     def close(self):
         """Nothing of it runs any more."""

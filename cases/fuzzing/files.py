@@ -15,13 +15,13 @@ MOST_BYTES = 65_536
 MOST_DEPTH = 80
 SYNTAX, KEY, VALUE = 12, 13, 14
 STATUS, STATUS_OPEN, STATUS_NOT_LOOPBACK, KEY_FILE, LEAVE, BIND, FAMILY, AUTO = 18, 19, 20, 21, 27, 28, 29, 31
-TEXT_KEYS = ("name", "address", "key_file", "group")
+TEXT_KEYS = ("name", "address", "record", "key_file", "group")
 INTEGER_KEYS = ("port", "dice")
 # Keys of which a value of another type is a fault of its own.
 ANY_KEYS = ("status", "status_open", "leave", "bind")
 # Of the node's own numbers: the least, the greatest, the default and the number of the fault.
 OWN_NUMBERS = {"pull_ms": (0, 3_600_000, 30_000, 16), "stall_ms": (0, 60_000, 100, 17),
-               "resolve_ms": (1000, 3_600_000, 60_000, 30)}
+               "resolve_ms": (1000, 3_600_000, 60_000, 30), "record_mb": (1, 100_000, 64, 32)}
 DEFAULT_TEXTS = {"address": "127.0.0.1", "port": 7946}
 # The configuration's numbers that a file may have: all but the first number of a probe.
 FILE_NUMBERS = {key: row for key, row in NUMBERS.items() if key != "first"}
@@ -182,10 +182,10 @@ def status_of(document):
     return place, is_open
 
 
-def key_file_of(document):
-    """The path of the key file, None if there is none."""
-    path = document.get("key_file")
-    must(path is None or re.fullmatch("[ -~]{1,255}", path), KEY_FILE)
+def path_of(document, key, number):
+    """The path of a file or a folder, None if there is none. The number is that of its fault."""
+    path = document.get(key)
+    must(path is None or re.fullmatch("[ -~]{1,255}", path), number)
     return path
 
 
@@ -228,6 +228,7 @@ def meaning_of(document):
     seeds = [seed_in(it) for it in document.get("seeds", [])]
     must(is_name(values["name"].encode(errors="replace")) and address and 1 <= values["port"] <= 65535
          and values.get("dice", 0) >= 0 and None not in seeds, VALUE)
+    values["record"] = path_of(document, "record", VALUE)
     values["own_dice"] = own_dice(values["name"], address, values["port"])
     values.setdefault("dice", values["own_dice"])
     # Seeds without names count, and stand for names that nobody has.
@@ -236,7 +237,7 @@ def meaning_of(document):
     for key, (least, most, _, number) in OWN_NUMBERS.items():
         must(least <= values[key] <= most, number)
     values["status"], values["status_open"] = status_of(document)
-    values["key_file"] = key_file_of(document)
+    values["key_file"] = path_of(document, "key_file", KEY_FILE)
     must(fault is None, fault)
     values["group"] = group_of(document)
     values["leave"] = leave_of(document)
@@ -250,15 +251,15 @@ def meaning_of(document):
 
 def shown(values):
     """The lines of `lg check`."""
-    order = ["name", "address", "port", "bind", "dice", "seeds", *FILE_NUMBERS, *OWN_NUMBERS, "status", "status_open",
-             "leave", "key_file", "group"]
+    order = ["name", "address", "port", "bind", "dice", "seeds", *FILE_NUMBERS, *OWN_NUMBERS, "record", "status",
+             "status_open", "leave", "key_file", "group"]
     seeds = ", ".join(f"{name}@{place}" if name else place for name, place in values["seeds"])
     texts = values | {"seeds": seeds or "none", "status": place_text(values["status"]) if values["status"] else "none",
                       "status_open": str(values["status_open"]).lower(), "key_file": values["key_file"] or "none",
-                      "group": values["group"] or "none"}
+                      "record": values["record"] or "none", "group": values["group"] or "none"}
     defaults = DEFAULT_TEXTS | {"dice": values["own_dice"]} | numbers_of({}) | {"seeds": "none", "status": "none", "status_open": "false",
                                                                               "leave": "on", "bind": values["own_place"]}
-    defaults |= {key: "none" for key in ("key_file", "group") if not values[key]}
+    defaults |= {key: "none" for key in ("record", "key_file", "group") if not values[key]}
     lines = [f"{key} = {texts[key]}{' (default)' if texts[key] == defaults.get(key) else ''}" for key in order]
     for live in SHOWN_MEMBERS:
         least, most, counted = suspicion_range(values, live)

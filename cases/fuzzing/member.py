@@ -30,12 +30,33 @@ class Probe:
     nacks: set = field(default_factory=set)
 
 
+@dataclass(frozen=True)
+class Unknown:
+    """The answer to who asks for a record that isn't there."""
+
+    def text(self):
+        return "none"
+
+
+@dataclass(frozen=True)
+class Health:
+    """The answer to who asks for a member's health."""
+
+    score: int
+    number: int
+    members: int
+
+    def text(self):
+        return f"score {self.score} number {self.number} members {self.members}"
+
+
 @dataclass
 class Reply:
-    """What an event gives. A timer that fired is its kind and whom it is about; an answer is its words."""
+    """What an event gives. A timer that fired is its kind, whom it is about and its deadline; an answer is a record, or
+    one of the two above."""
 
     fired: tuple | None = None
-    answer: str | None = None
+    answer: Claim | Unknown | Health | None = None
     sends: list = field(default_factory=list)
     changed: list = field(default_factory=list)
     forgotten: list = field(default_factory=list)
@@ -127,10 +148,10 @@ class Member(Known):
 
     def answer_status(self, name):
         record = self.own() if name == self.name else self.records.get(name)
-        self.reply.answer = record.text() if record else "none"
+        self.reply.answer = record or Unknown()
 
     def answer_health(self):
-        self.reply.answer = f"score {self.score} number {self.number} members {self.live()}"
+        self.reply.answer = Health(self.score, self.number, self.live())
 
     # ---- Timers
 
@@ -139,9 +160,9 @@ class Member(Known):
         due = min(((deadline, *timer) for timer, deadline in self.timers.items()), default=None)
         if due is None or due[0] > self.now:
             return
-        _, kind, subject = due
+        deadline, kind, subject = due
         del self.timers[kind, subject]
-        self.reply.fired = kind, subject
+        self.reply.fired = kind, subject, deadline
         {ROUND_START: self.start_round, DIRECT: self.ask_helpers, ROUND_END: self.end_round,
          SUSPICION: self.end_suspicion, RELAY_NACK: self.send_nack, RELAY_END: self.end_relay,
          FORGET: self.forget_due, NEWS: self.tell_news}[kind](subject, words)

@@ -122,6 +122,7 @@ def wild_value(dice, key):
     made = {"name": lambda: spelled(dice, dice.choice(NAMES)), "address": lambda: spelled(dice, own_address(dice)),
             "seeds": lambda: seeds(dice), "status": lambda: spelled(dice, place(dice)),
             "leave": lambda: spelled(dice, dice.choice(SWITCHES)), "bind": lambda: spelled(dice, bound(dice)),
+            "record": lambda: spelled(dice, dice.choice(PATHS)),
             "key_file": lambda: spelled(dice, dice.choice(PATHS)), "group": lambda: spelled(dice, dice.choice(NAMES))}
     return made.get(key, lambda: dice.choice(["true", "false", *VALUES]))()
 

@@ -1,5 +1,6 @@
 """Runs of the program over a case, and what they give beside what was wanted."""
 
+import shutil
 import subprocess
 from dataclasses import dataclass
 
@@ -10,11 +11,13 @@ ANYTHING = None
 
 @dataclass(frozen=True)
 class Case:
-    """The words behind the program's name, its input, and the bytes of the file that FILE stands for."""
+    """The words behind the program's name, its input, the bytes of the file that FILE stands for, and the names and
+    bytes of the files in the folder that FOLDER stands for."""
 
     words: tuple
     given: bytes = b""
     file: bytes = b""
+    folder: tuple = ()
 
 
 @dataclass(frozen=True)
@@ -57,11 +60,20 @@ class Programs:
     def __init__(self, program, player, folder):
         self.program, self.player, self.folder = program, player, folder
 
+    def fill(self, folder, files):
+        """Makes a folder that has these files alone."""
+        shutil.rmtree(folder, ignore_errors=True)
+        folder.mkdir()
+        for name, data in files:
+            (folder / name).write_bytes(data)
+
     def run(self, case, program=None):
         """Runs a program over a case."""
-        file = self.folder / "file"
-        file.write_bytes(case.file)
-        words = [str(file) if word == "FILE" else word for word in case.words]
+        paths = {"FILE": self.folder / "file", "FOLDER": self.folder / "folder"}
+        paths["FILE"].write_bytes(case.file)
+        if "FOLDER" in case.words:
+            self.fill(paths["FOLDER"], case.folder)
+        words = [str(paths.get(word, word)) for word in case.words]
         try:
             done = subprocess.run([program or self.program, *words], input=case.given, capture_output=True,
                                   timeout=SECONDS, cwd=self.folder)

@@ -66,10 +66,10 @@ def reply_lines(reply, first_packet):
     """The lines of a reply whose first packet has this number, but for the one that says that nothing was fired."""
     lines = []
     if reply.fired:
-        kind, subject = reply.fired
+        kind, subject, _ = reply.fired
         about = subject.decode() if isinstance(subject, bytes) else str(subject or "")
         lines.append(f"fired {TIMER_WORDS[kind]} {about}".rstrip())
-    lines += [f"answer {reply.answer}"] if reply.answer else []
+    lines += [f"answer {reply.answer.text()}"] if reply.answer else []
     lines += [f"send {count} {address_text(to)} {spelled(packet).hex()}"
               for count, (to, packet) in enumerate(reply.sends, first_packet)]
     lines += [f"record {record.text()}" for record in reply.changed]
