@@ -16,36 +16,42 @@ _lg() {
       compopt -o default
       return
       ;;
+    --record)
+      compopt -o dirnames
+      return
+      ;;
     --status-open) words='true false' ;;
     --leave) words='on off' ;;
     --name | --names | --words | --members | --confirmations | --alpha | --beta | --interval-ms | \
-      --for-ms | --address | --port | --dice | --pull-ms | --stall-ms | --resolve-ms | --status | \
-      --bind | --group | --seed | --timeout-ms | --indirect | --max-score | --lambda | \
+      --for-ms | --address | --port | --dice | --pull-ms | --stall-ms | --resolve-ms | --record-mb | \
+      --status | --bind | --group | --seed | --timeout-ms | --indirect | --max-score | --lambda | \
       --nack-thousandths | --history-limit | --wire | --forget-ms | --gossip-ms | --gossip-to | \
-      --at) return ;;
+      --at | --from | --to | --only) return ;;
     *)
       case $COMP_CWORD:$word:${COMP_WORDS[1]} in
         1:-*) words='--help --version' ;;
-        1:*) words='answer order timeouts sim node check init members status watch leave version help' ;;
+        1:*) words='answer order timeouts sim node check init members status watch leave replay version help' ;;
         *:answer) words='--name --help' ;;
         *:order) words='--names --words --help' ;;
         *:timeouts) words='--members --confirmations --alpha --beta --interval-ms --help' ;;
         *:sim) words='--help' ;;
         *:node) words='--config --for-ms --follow --until-input-ends --name --address --port --dice --pull-ms
-          --stall-ms --resolve-ms --status --status-open --leave --bind --key-file --group --seed
-          --interval-ms --timeout-ms --indirect --max-score --alpha --beta --confirmations --lambda
+          --stall-ms --resolve-ms --record-mb --record --status --status-open --leave --bind
+          --key-file --group --seed --interval-ms --timeout-ms --indirect --max-score --alpha --beta
+          --confirmations --lambda --nack-thousandths --history-limit --wire --forget-ms --gossip-ms
+          --gossip-to --help' ;;
+        *:check) words='--config --name --address --port --dice --pull-ms --stall-ms --resolve-ms --record-mb
+          --record --status --status-open --leave --bind --key-file --group --seed --interval-ms
+          --timeout-ms --indirect --max-score --alpha --beta --confirmations --lambda
           --nack-thousandths --history-limit --wire --forget-ms --gossip-ms --gossip-to --help' ;;
-        *:check) words='--config --name --address --port --dice --pull-ms --stall-ms --resolve-ms --status
-          --status-open --leave --bind --key-file --group --seed --interval-ms --timeout-ms
-          --indirect --max-score --alpha --beta --confirmations --lambda --nack-thousandths
-          --history-limit --wire --forget-ms --gossip-ms --gossip-to --help' ;;
         *:init) words='--help' ;;
         *:members) words='--at --json --help' ;;
         *:status) words='--at --json --help' ;;
         *:watch) words='--at --json --help' ;;
         *:leave) words='--at --name --help' ;;
+        *:replay) words='--from --to --only --help' ;;
         *:version) words='--help' ;;
-        *:help) words='answer order timeouts sim node check init members status watch leave version help' ;;
+        *:help) words='answer order timeouts sim node check init members status watch leave replay version help' ;;
       esac
       ;;
   esac
