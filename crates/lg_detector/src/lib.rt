@@ -26,6 +26,7 @@ pub use detector::{
 };
 pub use event::Event;
 pub use lg_rules::MAX_MEMBERS;
+pub use lg_suspicion::SuspicionStanding;
 pub use lg_timers::{Timer, TimerId};
 pub use reply::{Answer, MAX_CHANGED, MAX_FORGOTTEN, MAX_SENDS, Outgoing, Reply, choice_by};
 pub use sends::Sends;

@@ -15,5 +15,6 @@ mod rejoining;
 mod relaying;
 mod resuming;
 mod round_ends;
+mod suspected;
 mod tables;
 mod tick;

@@ -16,6 +16,7 @@ use Rattle.lg_rules.proofs.KeyOrder.{names_order, cases_key}
 use Rattle.lg_rules.proofs.Rises.{put-there}
 use Rattle.lg_rules.proofs.Roster.{rises-roster, roster-nil, roster-own, roster-forgot, roster-leaves, own_unknown, length-roster}
 use Rattle.lg_rules.proofs.RowLaws.{AgreeBut, rows_equal, rows_same, rows-skip, rows-put, rows-less, rows-without, row_at-rows, rises-rows, rows_room, length_rows-le}
+use Rattle.lg_rules.proofs.Stories.{record_of_none}
 use Rattle.lg_rules.proofs.Tables.{IsTaken, IsUnbeaten, Taken, Unbeaten, Out, heard_cases, heard-table, row_at-table}
 use Rattle.lg_timing.specs.declared.config.Config.{Config}
 use Rattle.lg_timing.specs.Meaning.Config.{does_forget}
@@ -29,6 +30,7 @@ use Rattle.lg_membership.proofs.QueueLaws.{none_rows}
 use Rattle.lg_rules.proofs.Removing.{without-missing}
 use Rattle.lg_membership.proofs.QueuedLaws.{row_out}
 use Rattle.lg_membership.proofs.SuspectedLaws.{suspected-alike, suspected-left, suspected-kept, suspected-forgotten, suspected-quiet, suspected-other, suspected-unopened, suspected-ended, suspected-raised, raised_at, suspected-accused, suspected_keyed}
+use Rattle.lg_membership.proofs.SuspectedLaws.{suspected_unknown}
 
 -- Facts that say nothing of a member leave the suspicions.
 pub suspicions-sent : (taken : List Claim) (log : GroupLog) → suspicions log ≡ suspicions (Sent taken ∷ log)
@@ -69,6 +71,19 @@ unfolding suspicions
 row_at-suspicions log m among =
     row_at-rows names_order suspected_name (suspected log) m (roster (forgets log) (me log) (own_facts log)) (rises-roster (forgets log) (me log) (own_facts log)) (suspected_keyed log)
     ∙ ap (λ b. cond b (suspected log m) None) among
+
+-- Who isn't known isn't suspected, so what is found among the suspicions is that of the member.
+pub found-suspected : (log : GroupLog) (m : List ℕ)
+    → row_at name_cmp suspected_name m (suspicions log) ≡ suspected log m
+unfolding suspicions
+found-suspected log m = elim (cases_Bool (is_among name_cmp m (roster (forgets log) (me log) (own_facts log)))) [
+  | inl among ↦ row_at-suspicions log m among
+  | inr other ↦
+      row_at-rows names_order suspected_name (suspected log) m (roster (forgets log) (me log) (own_facts log))
+      (rises-roster (forgets log) (me log) (own_facts log)) (suspected_keyed log)
+      ∙ ap (λ b. cond b (suspected log m) None) other
+      ∙ sym (suspected_unknown log m (record_of_none (forgets log) (me log) (own_facts log) m other))
+]
 
 -- there is none of oneself
 pub row_at-suspicions_own : (log : GroupLog) → row_at name_cmp suspected_name (me log) (suspicions log) ≡ None

@@ -2,12 +2,13 @@
 //!
 //! Defined in: `specs/Meaning/Suspicions.antt`.
 //! Tested in: `lg_parts_tests/src/membership/claims.rt`, `lg_parts_tests/src/membership/forgetting.rt`.
-ghost use Rattle.std.specs.Prelude.{◌≡◌, ◌≢◌, ◌≤◌, ℕ, List, [], length, map, Option, None, Some};
+ghost use Rattle.std.specs.Prelude.{◌≡◌, ◌≢◌, ◌≤◌, ℕ, IfSome, List, [], length, map, Option, None, Some};
+ghost use Rattle.std.specs.Prelude.{option_map};
 ghost use Rattle.lg_rules.specs.Meaning.Claim.{accuser_of};
 ghost use Rattle.lg_rules.specs.Meaning.Rows.{name_cmp, row_at, Rises};
 ghost use Rattle.lg_rules.specs.Meaning.Table.{live_in, members_forgot};
 ghost use Rattle.lg_suspicion.specs.Meaning.Parts.{IsKnownTo};
-ghost use Rattle.lg_membership.specs.Meaning.Suspicions.{suspected_name};
+ghost use Rattle.lg_membership.specs.Meaning.Suspicions.{suspected_name, standing_of_row};
 ghost use Rattle.lg_membership.specs.Support.Changes.{raised, ended, overriding, joined, accusing, change_by};
 ghost use Rattle.lg_membership.specs.Support.Changes.{suspicions_after, deadline_of_change, row_about};
 ghost use Rattle.lg_membership.specs.Support.Reached.{IsGood};
@@ -20,7 +21,7 @@ use crate::suspected::Suspected;
 use arrayvec::ArrayVec;
 use lg_bit_set::BitSet;
 use lg_rules::{Claim, Heard, MAX_OTHERS, Members, Name, Slot, Status, index_of, put_row};
-use lg_suspicion::Suspicion;
+use lg_suspicion::{Suspicion, SuspicionStanding};
 use lg_timing::{Config, Moment};
 use std::marker::Model;
 
@@ -116,6 +117,19 @@ impl Suspicions {
         Suspicions {
             rows: copy_rows(self.rows.as_slice()),
             accusers: self.accusers,
+        }
+    }
+
+    /// How the suspicion of a member stands, or `None` if it isn't suspected.
+    pub(crate) fn standing_of(&self, name: &Name) -> Option<SuspicionStanding>
+        requires { Rises name_cmp (map kept_name self.now) }
+        ensures standing { (names : List (Option (List ℕ))) → AreKnownTo names self.now
+            → result ≡ option_map standing_of_row (row_at name_cmp suspected_name name.now (rows_by names self.now)) }
+        ensures counted { IfSome result (λ s. s.confirmations ≤ s.timeout.confirmations) }
+    {
+        match index_of(self.rows.as_slice(), name) {
+            Ok(at) => Some(self.rows[at].suspicion.standing()),
+            Err(_) => None,
         }
     }
 

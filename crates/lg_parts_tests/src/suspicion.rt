@@ -59,8 +59,14 @@ fn does(step: &Step, suspicion: &mut Suspicion, members: &mut Members) -> bool
     }
 }
 
-/// Whether all these steps do what they should, and the deadline of the suspicion then.
-fn after_steps(steps: &[Step], suspicion: Suspicion, members: Members) -> (bool, u64)
+/// When a suspicion runs out, by how it stands.
+fn runs_out(suspicion: &Suspicion) -> u64 {
+    let standing = suspicion.standing();
+    standing.raised.milliseconds() + standing.timeout.after(standing.confirmations)
+}
+
+/// Whether all these steps do what they should, the deadline of the suspicion then, and the same by how it stands.
+fn after_steps(steps: &[Step], suspicion: Suspicion, members: Members) -> (bool, u64, u64)
     requires { IsKnownTo members.names suspicion }
 {
     let mut suspicion = suspicion;
@@ -69,7 +75,7 @@ fn after_steps(steps: &[Step], suspicion: Suspicion, members: Members) -> (bool,
     for step in steps {
         met = does(step, &mut suspicion, &mut members) && met;
     }
-    (met, suspicion.deadline())
+    (met, suspicion.deadline(), runs_out(&suspicion))
 }
 
 /// Whether the suspicion first has one deadline, all the steps do what they should, and it then has another.
@@ -79,7 +85,7 @@ fn is_so(case: &Case, config: &Config) -> bool
     let (others, before, steps, after) = *case;
     let members = knowing(others);
     let suspicion = raised_by_d(&members, config);
-    suspicion.deadline() == before && after_steps(steps, suspicion, members) == (true, after)
+    suspicion.deadline() == before && after_steps(steps, suspicion, members) == (true, after, after)
 }
 
 /// Whom `b` knows, the first deadline, what happens, and the deadline then.
@@ -211,4 +217,9 @@ fn a_flood_of_accusers(rt: HostRuntime) {
     let mut suspicion = raised_by_d(&members, &config);
     let counted = flooded(&mut suspicion, &members);
     assert_eq!(rt; (counted, suspicion.deadline()), (3, 7000));
+    let standing = suspicion.standing();
+    assert_eq!(rt;
+        (standing.raised.milliseconds(), standing.confirmations),
+        (2000, 3)
+    );
 }

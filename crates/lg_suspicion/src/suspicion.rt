@@ -24,11 +24,12 @@ ghost use Rattle.lg_timing.specs.Meaning.Config.{IsChecked};
 ghost use Rattle.lg_timing.specs.Meaning.TimeoutValue.{TimeoutValue};
 ghost use Rattle.lg_timing.specs.Meaning.Timeouts.{range_of};
 ghost use Rattle.lg_suspicion.specs.Meaning.Accusers.{suspicion_after, accuser_counts, accused};
-ghost use Rattle.lg_suspicion.specs.Meaning.Accusers.{deadline_of, deadline_by_set, set_of};
+ghost use Rattle.lg_suspicion.specs.Meaning.Accusers.{deadline_of, deadline_by_set, set_of, standing_of_suspicion};
 ghost use Rattle.lg_suspicion.specs.Meaning.Parts.{SuspicionParts, suspicion_by, accuser_count};
-ghost use Rattle.lg_suspicion.specs.Meaning.Parts.{deadline_of_parts, IsKnownTo, parts_without};
+ghost use Rattle.lg_suspicion.specs.Meaning.Parts.{deadline_of_parts, IsKnownTo, parts_without, standing_of_parts};
 ghost use Rattle.lg_suspicion.specs.Support.Accusers.{has_slot, members_with, named_with};
 
+use crate::standing::SuspicionStanding;
 use arrayvec::ArrayVec;
 use lg_bit_set::{BitSet, NUMBERS};
 use lg_rules::{Members, Name, Slot};
@@ -273,6 +274,25 @@ impl Suspicion {
         ensures within { result ≤ MAX_DEADLINE }
     {
         self.raised.milliseconds() + self.timeout.after(self.accusers() as u64 - 1)
+    }
+
+    /// How the suspicion stands: when it was raised, its timeouts, and how many confirmations came that count.
+    /// Allocates nothing.
+    pub fn standing(&self) -> SuspicionStanding
+        ensures parts { result ≡ standing_of_parts self.now }
+
+        // By whichever names have the slots, it is how the suspicion stands.
+        ensures standing { (names : List (Option (List ℕ))) → IsKnownTo names self.now
+            → result ≡ standing_of_suspicion (suspicion_by names self.now) }
+
+        // No more confirmations count than may.
+        ensures counted { result.confirmations ≤ result.timeout.confirmations }
+    {
+        SuspicionStanding {
+            raised: self.raised,
+            timeout: self.timeout,
+            confirmations: self.accusers() as u64 - 1,
+        }
     }
 }
 

@@ -1,10 +1,12 @@
 -- The events Ask and Health: questions. They change nothing but the moment and the number of events. And what this
--- member knows of itself.
-use Rattle.std.specs.Prelude.{ℕ, List}
+-- member knows of itself, and of the suspicions of others.
+use Rattle.std.specs.Prelude.{ℕ, List, Option}
 use Rattle.lg_rules.specs.Meaning.Claim.{name_of}
 use Rattle.lg_rules.specs.Meaning.Rows.{name_cmp, row_at}
 use Rattle.lg_membership.specs.Meaning.Log as group
 use Rattle.lg_membership.specs.Meaning.Log.{group_view}
+use Rattle.lg_membership.specs.Meaning.Suspicions.{standing_of_suspected}
+use Rattle.lg_suspicion.specs.declared.standing.SuspicionStanding.{SuspicionStanding}
 use Rattle.lg_detector.specs.declared.reply.Answer.{Answer}
 use Rattle.lg_detector.specs.declared.reply.Answer.TheVariants.{Status, Health}
 use Rattle.lg_detector.specs.declared.standing.Standing.{Standing}
@@ -30,3 +32,7 @@ abbrev pub own_standing : Log → Standing
 own_standing log =
     let own = group.own (group_log log) in
     record { score = (score log).value; number = own.number; ousted = own.ousted }
+
+-- how the suspicion of a member stands, if it is suspected, which is no event
+abbrev pub suspicion_standing : List ℕ → Log → Option SuspicionStanding
+suspicion_standing name log = standing_of_suspected (group_log log) name

@@ -23,6 +23,7 @@ use Rattle.lg_rules.specs.declared.claim.Claim.{Claim}
 use Rattle.lg_rules.specs.Meaning.View.{changed}
 use Rattle.lg_timing.specs.Meaning.Config.{check_of}
 use Rattle.lg_timers.specs.declared.timer.Timer.{Timer}
+use Rattle.lg_suspicion.specs.declared.standing.SuspicionStanding.{SuspicionStanding}
 use Rattle.lg_membership.specs.Meaning.Log as group
 use Rattle.lg_membership.specs.Meaning.Log.{group_view}
 use Rattle.lg_detector.specs.declared.event.Event.{Event}
@@ -38,7 +39,7 @@ use Rattle.lg_detector.specs.Meaning.Apply.{come}
 use Rattle.lg_detector.specs.Meaning.Open.{open_with}
 use Rattle.lg_detector.specs.Meaning.Hear.{hear_claims, hear, sends_to}
 use Rattle.lg_detector.specs.Meaning.Tick.{tick, sends_at}
-use Rattle.lg_detector.specs.Meaning.Ask.{ask, status, health, own_standing}
+use Rattle.lg_detector.specs.Meaning.Ask.{ask, status, health, own_standing, suspicion_standing}
 use Rattle.lg_detector.specs.Meaning.Joining.{pull, pulls}
 use Rattle.lg_detector.specs.Meaning.Leave.{leave, leave_sends}
 
@@ -108,7 +109,7 @@ reply e log =
     }
 
 -- The same after a list of events, the earliest first: the reply to one more event, the member table, the least
--- deadline, what this member knows of itself, and the greatest moment handed in.
+-- deadline, what this member knows of itself, how the suspicion of a member stands, and the greatest moment handed in.
 abbrev pub reply_after : List Event → Event → Reply
 reply_after f e = reply e (log_of (reverse f))
 
@@ -120,6 +121,9 @@ deadline_after f = deadline_in (pending (log_of (reverse f)))
 
 abbrev pub own_standing_after : List Event → Standing
 own_standing_after f = own_standing (log_of (reverse f))
+
+abbrev pub suspicion_standing_after : List Event → List ℕ → Option SuspicionStanding
+suspicion_standing_after f name = suspicion_standing name (log_of (reverse f))
 
 abbrev pub moment_after : List Event → ℕ
 moment_after f = moment (log_of (reverse f))

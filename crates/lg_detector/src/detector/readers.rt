@@ -2,20 +2,22 @@
 //!
 //! Defined in: `specs/Meaning/Step.antt`, `specs/Meaning/Ask.antt`, `specs/Support/Step.antt`,
 //! `lg_rules/specs/Meaning/Rows.antt`.
-//! Tested in: `lg_detector_tests/src/detector/ask.rt`.
-ghost use Rattle.std.specs.Prelude.{◌≡◌, List, IfOk, length, option_map};
+//! Tested in: `lg_detector_tests/src/detector/ask.rt`, `lg_detector_tests/src/detector/suspected.rt`.
+ghost use Rattle.std.specs.Prelude.{◌≡◌, ◌≤◌, List, IfOk, IfSome, length, option_map};
 ghost use Rattle.lg_rules.specs.Meaning.Claim.{name_of};
 ghost use Rattle.lg_rules.specs.Meaning.Rows.{name_cmp, row_at};
 ghost use Rattle.lg_detector.specs.declared.event.Event.{Event as Happened};
 ghost use Rattle.lg_detector.specs.Meaning.Step.{view_after, deadline_after, moment_after, own_standing_after};
+ghost use Rattle.lg_detector.specs.Meaning.Step.{suspicion_standing_after};
 ghost use Rattle.lg_detector.specs.Meaning.Timing.{or_zero};
-ghost use Rattle.lg_detector.specs.Support.Ask.{own_standing_state};
+ghost use Rattle.lg_detector.specs.Support.Ask.{own_standing_state, suspicion_standing_state};
 ghost use Rattle.lg_detector.specs.Support.Step.{state_after, deadline_state, view_state};
 
 use super::{Detector, NoMemory};
 use crate::standing::Standing;
 use arrayvec::ArrayVec;
 use lg_rules::{Addr, MAX_MEMBERS, Name, Record};
+use lg_suspicion::SuspicionStanding;
 use lg_timing::Moment;
 use std::alloc::Global;
 
@@ -70,6 +72,22 @@ impl Detector {
             number: self.parts.membership.number(),
             ousted: self.parts.membership.is_ousted(),
         }
+    }
+
+    /// How the suspicion of a member stands, or `None` if it isn't suspected (Lifeguard, local health aware suspicion):
+    /// when it was raised, in milliseconds, its timeouts, and how many confirmations came that count. This member never
+    /// suspects itself. Allocates nothing.
+    ///
+    /// The suspicion runs out at the moment at which it was raised plus `timeout.after(confirmations)` milliseconds. If
+    /// the member is still suspected then, the first tick from that moment on takes it as failed.
+    pub fn suspicion_of(&self, name: &Name) -> Option<SuspicionStanding>
+        ensures state { result ≡ suspicion_standing_state self.now name.now }
+        ensures list { (f : List Happened) → self.now ≡ state_after f
+            → result ≡ suspicion_standing_after f name.now }
+        // No more confirmations count than may.
+        ensures counted { IfSome result (λ s. s.confirmations ≤ s.timeout.confirmations) }
+    {
+        self.parts.membership.suspicion_of(name)
     }
 
     /// The greatest moment handed in so far, or 0 if nothing has happened yet. Allocates nothing.

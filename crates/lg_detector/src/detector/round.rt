@@ -243,13 +243,13 @@ impl Detector {
         ensures { option_to_list result ≡ failure_of self.now.membership.own.name self.now.round (view_state self.now) }
     {
         match &self.parts.round {
-            Some(round) if !round.is_acked() => self.suspicion_of(&round.target()),
+            Some(round) if !round.is_acked() => self.accusation_of(&round.target()),
             _ => None,
         }
     }
 
     /// The claim that a member is suspected, if it has a record that isn't Failed.
-    fn suspicion_of(&self, member: &Name) -> Option<Claim>
+    fn accusation_of(&self, member: &Name) -> Option<Claim>
         ensures { option_to_list result
             ≡ suspect_of self.now.membership.own.name (found member.now (view_state self.now)) }
     {

@@ -1,6 +1,6 @@
 -- Who is suspected, since when and by whom (SWIM, section 4.2; Lifeguard, local health aware suspicion).
 use Rattle.std.specs.Prelude.{ℕ, Bool, true, false, ◌&&◌, ◌==◌, if◌then◌else◌}
-use Rattle.std.specs.Prelude.{List, [], ◌∷◌, filter, Option, Some, None}
+use Rattle.std.specs.Prelude.{List, [], ◌∷◌, filter, Option, Some, None, option_map}
 use Rattle.std.specs.List.{filter_map}
 use Rattle.lg_rules.specs.declared.claim.Claim.{Claim}
 use Rattle.lg_rules.specs.declared.members.Heard.{Heard}
@@ -11,7 +11,9 @@ use Rattle.lg_rules.specs.Meaning.Rows.{name_cmp, is_same, is_among, row_at}
 use Rattle.lg_rules.specs.Meaning.Table.{record_of, hearing_of}
 use Rattle.lg_timing.specs.declared.config.Config.{Config}
 use Rattle.lg_timing.specs.Meaning.Timeouts.{range_of}
+use Rattle.lg_suspicion.specs.declared.standing.SuspicionStanding.{SuspicionStanding}
 use Rattle.lg_suspicion.specs.Meaning.Accusers.{SuspicionValue, suspicion_after, accuser_counts}
+use Rattle.lg_suspicion.specs.Meaning.Accusers.{standing_of_suspicion}
 use Rattle.lg_gossip.specs.Meaning.Queue.{is_suspect}
 use Rattle.lg_membership.specs.Meaning.Log.{GroupLog, Opened, Said, Sent, Departed, Forgot, config, me}
 use Rattle.lg_membership.specs.Meaning.Log.{own_facts, forgets}
@@ -80,6 +82,14 @@ suspicions log = filter_map (suspected log) (known_others log)
 
 abbrev pub suspected_name : SuspectedValue → List ℕ
 suspected_name r = r.name
+
+-- how the suspicion of a member stands, if it is suspected: when it was raised, its timeouts, and how many
+-- confirmations came that count
+abbrev pub standing_of_row : SuspectedValue → SuspicionStanding
+standing_of_row row = standing_of_suspicion row.suspicion
+
+abbrev pub standing_of_suspected : GroupLog → List ℕ → Option SuspicionStanding
+standing_of_suspected log m = option_map standing_of_row (suspected log m)
 
 -- A claim confirms a suspicion if it accuses a suspected member at the incarnation of its record, and its accuser is
 -- new and counts.

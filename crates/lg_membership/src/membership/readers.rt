@@ -1,9 +1,9 @@
 //! What a member can be asked about its group.
 //!
-//! Defined in: `specs/Meaning/Log.antt`, `specs/Meaning/Gossip.antt`, `lg_rules/specs/Meaning/Table.antt`,
-//! `lg_rules/specs/Meaning/Own.antt`.
+//! Defined in: `specs/Meaning/Log.antt`, `specs/Meaning/Gossip.antt`, `specs/Meaning/Suspicions.antt`,
+//! `lg_rules/specs/Meaning/Table.antt`, `lg_rules/specs/Meaning/Own.antt`.
 //! Tested in: `lg_parts_tests/src/membership/claims.rt`.
-ghost use Rattle.std.specs.Prelude.{◌≡◌, ◌≤◌, ◌<◌, [], false, length, option_copied, option_map, true};
+ghost use Rattle.std.specs.Prelude.{◌≡◌, ◌≤◌, ◌<◌, [], false, IfSome, length, option_copied, option_map, true};
 ghost use Rattle.lg_rules.specs.Meaning.Claim.{name_of};
 ghost use Rattle.lg_rules.specs.Meaning.Own.{own_record};
 ghost use Rattle.lg_rules.specs.Meaning.Rows.{name_cmp, row_at};
@@ -12,6 +12,7 @@ ghost use Rattle.lg_gossip.specs.Meaning.Queue.{has_news};
 ghost use Rattle.lg_membership.specs.Meaning.Gossip.{fill, news, version_sent};
 ghost use Rattle.lg_membership.specs.declared.addressee.Addressee.TheVariants.{Anybody};
 ghost use Rattle.lg_membership.specs.Meaning.Log.{GroupLog, config, own, group_view, live};
+ghost use Rattle.lg_membership.specs.Meaning.Suspicions.{suspected_name, standing_of_row, standing_of_suspected};
 ghost use Rattle.lg_membership.specs.Support.State.{group_state_of, shown};
 
 use super::{Membership, is_same_name};
@@ -19,6 +20,7 @@ use arrayvec::ArrayVec;
 use lg_rules::{
     Addr, Incarnation, MAX_MEMBERS, MAX_OTHERS, Members, Name, Record, Version, put_row,
 };
+use lg_suspicion::SuspicionStanding;
 use lg_timing::Config;
 
 impl Membership {
@@ -117,6 +119,19 @@ impl Membership {
             return Some(own);
         }
         self.members.get(name).copied()
+    }
+
+    /// How the suspicion of the member with this name stands, or `None` if it isn't suspected (Lifeguard, local health
+    /// aware suspicion). This member never suspects itself. Allocates no memory.
+    pub fn suspicion_of(&self, name: &Name) -> Option<SuspicionStanding>
+        ensures state { result ≡ option_map standing_of_row
+            (row_at name_cmp suspected_name name.now self.now.suspicions) }
+        ensures log { (log : GroupLog) → self.now ≡ group_state_of log
+            → result ≡ standing_of_suspected log name.now }
+        // No more confirmations count than may.
+        ensures counted { IfSome result (λ s. s.confirmations ≤ s.timeout.confirmations) }
+    {
+        self.suspicions.standing_of(name)
     }
 
     /// The address of the member with this name, which may be this member itself, or `None` if it isn't known. If its

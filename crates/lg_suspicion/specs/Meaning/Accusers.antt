@@ -18,6 +18,7 @@ use Rattle.lg_rules.specs.Meaning.Past.{oldest}
 use Rattle.lg_rules.specs.Meaning.Rows.{name_cmp, is_among, distinct, in_order, put_key}
 use Rattle.lg_timing.specs.Meaning.TimeoutValue.{TimeoutValue}
 use Rattle.lg_timing.specs.Meaning.Timeouts.{timeout_of}
+use Rattle.lg_suspicion.specs.declared.standing.SuspicionStanding.{SuspicionStanding}
 
 -- when a suspicion was raised, its timeouts, and the accusers that count, in the order of names
 pub record SuspicionValue : Type 0 where
@@ -52,6 +53,11 @@ accused s accuser =
 -- the deadline of a suspicion: when it runs out, and the member is taken as failed
 abbrev pub deadline_of : SuspicionValue → ℕ
 deadline_of s = s.raised + timeout_of s.timeout (length s.accusers - 1)
+
+-- how a suspicion stands: when it was raised, its timeouts, and how many confirmations came that count, which are the
+-- accusers that count without the first
+abbrev pub standing_of_suspicion : SuspicionValue → SuspicionStanding
+standing_of_suspicion s = record { raised = s.raised; timeout = s.timeout; confirmations = length s.accusers - 1 }
 
 -- The same deadline by the set of all accusers, in the order of names. All but one of them are confirmations, but no
 -- more than may count.

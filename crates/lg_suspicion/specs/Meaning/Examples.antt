@@ -4,6 +4,7 @@ use Rattle.lg_timing.specs.Meaning.Tables.{ratio_of}
 use Rattle.lg_timing.specs.Meaning.TimeoutValue.{TimeoutValue}
 use Rattle.lg_timing.specs.Meaning.Timeouts.{timeout_of}
 use Rattle.lg_suspicion.specs.Meaning.Accusers.{counted_accusers, suspicion_after, deadline_of, deadline_by_set, set_of}
+use Rattle.lg_suspicion.specs.Meaning.Accusers.{standing_of_suspicion}
 use Rattle.lg_suspicion.specs.Meaning.Parts.{SuspicionParts, accuser_count, accusers_by}
 use Rattle.lg_suspicion.specs.Meaning.Parts.{deadline_of_parts, parts_without}
 
@@ -25,6 +26,13 @@ two_accusers = refl
 confirmed_once : deadline_of (suspicion_after 2000 five (e ∷ d ∷ d ∷ [])) ≡ 19500
 unfolding counted_accusers timeout_of ratio_of
 confirmed_once = refl
+
+-- so one confirmation came
+standing_once :
+    standing_of_suspicion (suspicion_after 2000 five (e ∷ d ∷ d ∷ []))
+    ≡ record { raised = 2000; timeout = five; confirmations = 1 }
+unfolding counted_accusers
+standing_once = refl
 
 by_the_set : deadline_by_set 2000 five (set_of (e ∷ d ∷ d ∷ [])) ≡ 19500
 unfolding timeout_of ratio_of

@@ -24,6 +24,7 @@ use Rattle.lg_rules.specs.Meaning.Rows.{name_cmp, in_order}
 use Rattle.lg_rules.specs.Meaning.Slots.{slot_in}
 use Rattle.lg_timing.specs.Meaning.TimeoutValue.{TimeoutValue}
 use Rattle.lg_timing.specs.Meaning.Timeouts.{timeout_of}
+use Rattle.lg_suspicion.specs.declared.standing.SuspicionStanding.{SuspicionStanding}
 use Rattle.lg_suspicion.specs.Meaning.Accusers.{SuspicionValue}
 
 -- When a suspicion was raised, its timeouts, and the accusers that count. Those that confirmed it and were known when
@@ -57,6 +58,11 @@ suspicion_by names parts =
 -- its deadline
 abbrev pub deadline_of_parts : SuspicionParts → ℕ
 deadline_of_parts parts = parts.raised + timeout_of parts.timeout (accuser_count parts - 1)
+
+-- how it stands
+abbrev pub standing_of_parts : SuspicionParts → SuspicionStanding
+standing_of_parts parts =
+    record { raised = parts.raised; timeout = parts.timeout; confirmations = accuser_count parts - 1 }
 
 -- Names have the slots that the accusers had when they accused: each of these slots is that of a name, and no accuser
 -- counts twice, once by its slot and once by its name.
