@@ -1,0 +1,10 @@
+use Rattle.std.proofs.Common.{◌≡◌, ◌++◌, map, string_bytes, take}
+use Rattle.std.specs.List.{flat_map}
+use Rattle.lg_accounts.specs.Meaning.Accounts.{account_text}
+use Rattle.lg_accounts.specs.Meaning.Values.{account_value}
+use Rattle.lg_accounts.proofs.accounts.put_others.Given as goal
+
+-- the accounts so far
+abbrev pub invariant-loop-account : goal.invariant-loop-account
+invariant-loop-account l =
+    string_bytes l.text ≡ string_bytes l.initial.text ++ flat_map (account_text l.name l.shows_entries) (map account_value (take l.account-index l.others))
