@@ -2,6 +2,8 @@
 pub mod Answering
 pub mod Choosing
 pub mod Examples
+pub mod ExplainExamples
+pub mod Explaining
 pub mod Faults
 pub mod Init
 pub mod InitExamples

@@ -1,18 +1,16 @@
 //! The command `replay`: what of a recording it tells, by the texts of its command line.
 //!
-//! Defined in: `specs/Meaning/Replaying.antt`, `specs/Meaning/Faults.antt`.
+//! Defined in: `specs/Meaning/Replaying.antt`.
 //! Tested in: `lg_command_tests/src/replay.rt`.
 ghost use Rattle.std.specs.Prelude.{◌≡◌, IfErr, IfOk, Ok, OnOk};
 ghost use Rattle.std.specs.Option.{option_map};
-ghost use Rattle.lg_commands.specs.Meaning.Faults.{bad_part_text};
 ghost use Rattle.lg_commands.specs.Meaning.Replaying.{only_of, part_of, TellsBadPart};
 
-use crate::status::BAD_INPUT;
-use lg_config::{FilePath, MAX_PATH};
-use lg_rules::{MAX_NAME, Name};
-use lg_text::{FaultStream, report};
+use crate::bad_part::{BadPart, tell_bad_part};
+use lg_config::FilePath;
+use lg_rules::Name;
+use lg_text::FaultStream;
 use lg_timing::Moment;
-use thiserror::Error;
 
 /// What of a recording is told.
 #[derive(Debug, Drop)]
@@ -25,29 +23,6 @@ pub struct RecordingPart {
     pub to: Moment,
     /// The member of which is told. None if all is told.
     pub only: Option<Name>,
-}
-
-/// Which text of `replay` is bad. The folder is judged first.
-#[derive(Clone, Copy, Debug, PartialEq, Eq, Error)]
-pub enum BadPart {
-    /// The folder has no bytes, more than 255, or one that isn't printable ASCII.
-    #[error("the folder has to have 1 to {most} bytes of printable ASCII", most = MAX_PATH)]
-    Folder,
-    /// The folder is good, but the name is no name.
-    #[error("the name has to have 1 to {most} bytes of A-Z a-z 0-9 . _ -", most = MAX_NAME)]
-    Name,
-}
-
-impl BadPart {
-    /// The line that reports the text, with its newline.
-    pub fn text(self) -> &'static str
-        ensures { result.now ≡ bad_part_text self }
-    {
-        match self {
-            BadPart::Folder => "lg: bad folder\n",
-            BadPart::Name => "lg: bad names\n",
-        }
-    }
 }
 
 /// The member of which is told, by the text of its name, if one is given. The outer None says that it is no name.
@@ -84,7 +59,7 @@ fn part_of(
 /// first and the last moment. The folder isn't looked at.
 ///
 /// If a text is bad, `lg: bad folder` or `lg: bad names` is reported, and the `Err` is the status, which is
-/// [`BAD_INPUT`]. A line that `faults` doesn't take is dropped. No memory is allocated.
+/// [`BAD_INPUT`](crate::BAD_INPUT). A line that `faults` doesn't take is dropped. No memory is allocated.
 pub fn part_to_replay<F: FaultStream>(
     folder: &str,
     from: Moment,
@@ -100,9 +75,6 @@ pub fn part_to_replay<F: FaultStream>(
 {
     match part_of(folder, from, to, only) {
         Ok(part) => Ok(part),
-        Err(bad) => {
-            report(faults, bad.text());
-            Err(BAD_INPUT)
-        }
+        Err(bad) => Err(tell_bad_part(bad, faults)),
     }
 }

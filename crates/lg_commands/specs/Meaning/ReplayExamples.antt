@@ -2,7 +2,7 @@
 use Rattle.std.specs.Prelude.{◌≡◌, [], None, Some, Ok, Err, codes, refl, replicate}
 use Rattle.lg_commands.specs.Meaning.Faults.{bad_part_text}
 use Rattle.lg_commands.specs.Meaning.Replaying.{part_of}
-use Rattle.lg_commands.specs.declared.replay.BadPart.TheVariants.{Folder, Name}
+use Rattle.lg_commands.specs.declared.bad_part.BadPart.TheVariants.{Folder, Name}
 
 whole :
     part_of (codes "/var/lib/lg") 0 70 None

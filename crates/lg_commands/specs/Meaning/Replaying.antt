@@ -6,8 +6,8 @@ use Rattle.lg_rules.specs.Meaning.Name.{name_of_text}
 use Rattle.lg_text.specs.Meaning.Reporting.{Reported, Reports}
 use Rattle.lg_config.specs.Meaning.Paths.{path_of}
 use Rattle.lg_commands.specs.Meaning.Faults.{bad_part_text}
-use Rattle.lg_commands.specs.declared.replay.BadPart.{BadPart}
-use Rattle.lg_commands.specs.declared.replay.BadPart.TheVariants.{Folder, Name}
+use Rattle.lg_commands.specs.declared.bad_part.BadPart.{BadPart}
+use Rattle.lg_commands.specs.declared.bad_part.BadPart.TheVariants.{Folder, Name}
 use Rattle.lg_commands.specs.declared.replay.RecordingPart.{RecordingPart}
 
 -- the member of which is told, by the text of its name, if one is given; the outer None says that it is no name
@@ -25,9 +25,10 @@ part_by (Some folder) from to (Some only) = Ok record { folder = folder; from = 
 abbrev pub part_of : List ℕ → ℕ → ℕ → Option (List ℕ) → Result RecordingPart BadPart
 part_of folder from to only = part_by (path_of folder) from to (only_of only)
 
--- A text is bad. That is reported, as far as the report is taken, and the status is 3.
+-- A text is bad, which would say what part of a recording is told. That is reported, as far as the report is taken, and
+-- the status is 3.
 pub record TellsBadPart
-    (reported reports : Reported) (said : Result RecordingPart BadPart) (status : ℕ)
+    {Part : Type 0} (reported reports : Reported) (said : Result Part BadPart) (status : ℕ)
     : Type 0 where
   pub bad : BadPart
   pub is : said ≡ Err bad
