@@ -6,6 +6,8 @@ mod addresses;
 #[cfg(test)]
 mod config;
 #[cfg(test)]
+mod explain;
+#[cfg(test)]
 mod finding;
 #[cfg(test)]
 mod launch;
