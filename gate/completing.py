@@ -85,12 +85,18 @@ def pattern(options, fits):
     return folded([name for name, option in options.items() if fits(option)], " | ", "").replace("|\n", "| \\\n      ")
 
 
+def offered_for(option):
+    """What is offered for the value of an option: files, folders, some texts, or nothing, which is True if it has a
+    value."""
+    return option.value if option.value in (FILE, FOLDER) else option.choices() or bool(option.value)
+
+
 def by_name(commands):
-    """The options of all commands by their names. Those of one name take the same, so bash needn't know of which
-    command one is."""
+    """The options of all commands by their names. For those of one name the same is offered, so bash needn't know of
+    which command one is."""
     found = {}
     for option in (option for it in commands for option in it.options):
-        if found.setdefault(option.name, option).value != option.value:
+        if offered_for(found.setdefault(option.name, option)) != offered_for(option):
             raise ValueError(f"{option.name} takes {option.value}, and {found[option.name].value} of another command")
     return found
 
