@@ -28,6 +28,24 @@ pub enum Question {
     Watch,
 }
 
+/// What the command `explain` tells of a recording, and how.
+#[derive(Clone, Copy, Debug)]
+pub struct ExplainWords<'a> {
+    /// The text that should be the name of the member that it is told about, which may be no name.
+    pub name: &'a str,
+    /// The text that should be the path of the recording's folder, which may be no path.
+    pub folder: &'a str,
+    /// The latest moment at which the first verdict of an account may have come. It is the greatest moment if the
+    /// command line has none.
+    pub at: Moment,
+    /// Whether each of the accounts is told, or only the last.
+    pub all: bool,
+    /// Whether the numbers of the entries are told too.
+    pub entries: bool,
+    /// Whether the accounts are written as JSON, in place of lines.
+    pub json: bool,
+}
+
 /// What a command line asks for.
 #[derive(Debug, Drop)]
 pub enum Asked<'a> {
@@ -95,6 +113,11 @@ pub enum Asked<'a> {
         /// command line has none, and then all is told.
         only: Option<&'a str>,
     },
+    /// The command `explain`, which tells why a member was suspected, or taken as failed or left.
+    Explain {
+        /// Its member, the recording, and what of it is told.
+        words: ExplainWords<'a>,
+    },
     /// The command `sim`.
     Sim,
     /// The command `version`.
@@ -125,6 +148,7 @@ impl Asked<'_> {
             | Asked::Init
             | Asked::Leave { .. }
             | Asked::Replay { .. }
+            | Asked::Explain { .. }
             | Asked::Sim
             | Asked::Version => true,
         }

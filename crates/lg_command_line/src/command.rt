@@ -50,7 +50,7 @@ const ASK: &[OptionRow<'static>] = &[
 ];
 
 /// The commands, in the order of the help.
-const COMMANDS: [CommandRow<'static>; 13] = [
+const COMMANDS: [CommandRow<'static>; 14] = [
     CommandRow {
         name: "answer",
         about: "Answers packets, a line of hex each, as a detector does",
@@ -205,6 +205,43 @@ const COMMANDS: [CommandRow<'static>; 13] = [
                 id: "only",
                 takes: Takes::OptionalText("NAME"),
                 help: "The member of which is told; without it, all are",
+            },
+        ],
+        keys: &[],
+    },
+    CommandRow {
+        name: "explain",
+        about: "Tells from a recording why a member was suspected, or taken as failed or left",
+        options: &[
+            OptionRow {
+                id: "name",
+                takes: Takes::Word("NAME"),
+                help: "The name of the member",
+            },
+            OptionRow {
+                id: "record",
+                takes: Takes::RequiredText("FOLDER"),
+                help: "The folder of the recording",
+            },
+            OptionRow {
+                id: "at",
+                takes: Takes::Number(0, MAX_MOMENT),
+                help: "The moment of which is told, in milliseconds by the node's clock; without it, the last one",
+            },
+            OptionRow {
+                id: "all",
+                takes: Takes::Nothing,
+                help: "Tells each time that it was suspected, failed or left, in place of the last",
+            },
+            OptionRow {
+                id: "entries",
+                takes: Takes::Nothing,
+                help: "Writes the number of each entry behind its moment",
+            },
+            OptionRow {
+                id: "json",
+                takes: Takes::Nothing,
+                help: "Writes JSON in place of lines",
             },
         ],
         keys: &[],

@@ -16,5 +16,5 @@ mod taking;
 mod version;
 mod words;
 
-pub use asked::{Asked, DEFAULT_AT, MAX_RUN_MS, Question};
+pub use asked::{Asked, DEFAULT_AT, ExplainWords, MAX_RUN_MS, Question};
 pub use taking::take_words;

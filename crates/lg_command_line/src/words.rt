@@ -14,14 +14,14 @@ ghost use Rattle.lg_config.specs.Meaning.Options.{options_of};
 ghost use Rattle.lg_command_line.specs.Meaning.Apps.{lg_app};
 ghost use Rattle.lg_command_line.specs.Meaning.KeyOptions.{given_for, source_in};
 ghost use Rattle.lg_command_line.specs.Meaning.Commands.{ask_of_rows, asked, check, has_good_numbers};
-ghost use Rattle.lg_command_line.specs.Meaning.Commands.{line_faults};
+ghost use Rattle.lg_command_line.specs.Meaning.Commands.{explain_of_rows, line_faults};
 ghost use Rattle.lg_command_line.specs.Meaning.Commands.{flag_in, moment_in, node_of_rows, replay_of_rows};
 ghost use Rattle.lg_command_line.specs.Meaning.Commands.{number_given, number_in, numbers_in};
 ghost use Rattle.lg_command_line.specs.Meaning.Commands.{request_faults, request_of_rows, text_in};
 ghost use Rattle.lg_command_line.specs.Meaning.Commands.{IfNode, IfTimeouts};
 ghost use Rattle.lg_command_line.specs.Support.Requests.{request_of};
 
-use crate::asked::{Asked, MAX_RUN_MS, Question};
+use crate::asked::{Asked, ExplainWords, MAX_RUN_MS, Question};
 use crate::command::lg_command;
 use clap::error::ErrorKind;
 use clap::{ArgMatches, Command, Error};
@@ -124,6 +124,7 @@ fn asked_of<'a>(alloc: Global, name: &str, found: &ArgMatches<'a>) -> Result<Ask
             name: text_in(found, "name"),
         }),
         "replay" => Ok(replay_in(found)),
+        "explain" => Ok(explain_in(found)),
         "version" => Ok(Asked::Version),
         _ => Ok(Asked::Answer {
             name: text_in(found, "name"),
@@ -224,9 +225,31 @@ fn replay_in<'a>(found: &ArgMatches<'a>) -> Asked<'a>
     Asked::Replay {
         folder: text_in(found, "folder"),
         from: moment_in(found, "from", Moment::default()),
-        to: moment_in(found, "to", Moment::new(MAX_MOMENT).unwrap()),
+        to: moment_in(found, "to", greatest_moment()),
         only: text_given(found, "only"),
     }
+}
+
+/// The command `explain`, with its options.
+fn explain_in<'a>(found: &ArgMatches<'a>) -> Asked<'a>
+    ensures { request_of result ≡ explain_of_rows (rows_of (found_of found.now)) }
+{
+    let words = ExplainWords {
+        name: text_in(found, "name"),
+        folder: text_in(found, "record"),
+        at: moment_in(found, "at", greatest_moment()),
+        all: flag_in(found, "all"),
+        entries: flag_in(found, "entries"),
+        json: flag_in(found, "json"),
+    };
+    Asked::Explain { words }
+}
+
+/// The moment behind which there is none.
+fn greatest_moment() -> Moment
+    ensures { result ≡ MAX_MOMENT }
+{
+    Moment::new(MAX_MOMENT).unwrap()
 }
 
 /// The numbers of the options of `timeouts`.

@@ -131,13 +131,23 @@ replay_app =
     let from = with_rule folder (number_rule (codes "from") 0 MAX_MOMENT) in
     with_rule (with_rule from (number_rule (codes "to") 0 MAX_MOMENT)) (optional_text_rule (codes "only"))
 
+-- the command that tells from a recording about a member: the member and the folder have to be named, and no other
+-- option has to be given
+abbrev pub explain_app : App
+explain_app =
+    let name = with_rule (new_app (codes "explain")) (word_rule (codes "name")) in
+    let folder = with_rule name (text_rule (codes "record")) in
+    let at = with_rule folder (number_rule (codes "at") 0 MAX_MOMENT) in
+    with_rule (with_rule (with_rule at (flag_rule (codes "all"))) (flag_rule (codes "entries")))
+    (flag_rule (codes "json"))
+
 -- The program has the commands `answer`, `order`, `timeouts`, `sim`, `node`, `check` and `init`, and `members`,
--- `status`, `watch` and `leave`, which ask a running node, and `replay` and `version`. One of them has to be named. It
--- has a version, which `--version` and `-V` ask for.
+-- `status`, `watch` and `leave`, which ask a running node, and `replay`, `explain` and `version`. One of them has to be
+-- named. It has a version, which `--version` and `-V` ask for.
 abbrev pub lg_app : App
 lg_app =
     let lg = on_top (λ s. record s { has_version = true; subcommand_required = true }) (new_app (codes "lg")) in
     let first = with_subcommand (with_subcommand (with_subcommand lg answer_app.top) order_app.top) timeouts_app.top in
     let others = with_subcommand (with_subcommand (with_subcommand first sim_app.top) node_app.top) check_app.top in
     let asking = with_subcommand (with_questions (with_subcommand others init_app.top)) leave_app.top in
-    with_subcommand (with_subcommand asking replay_app.top) version_app.top
+    with_subcommand (with_subcommand (with_subcommand asking replay_app.top) explain_app.top) version_app.top

@@ -61,6 +61,17 @@ numbers_in rows = record {
   interval_ms = number_in rows (codes "interval-ms");
 }
 
+-- The options of `explain`: the text of the member's name, that of the folder, the latest moment at which the first
+-- verdict of an account may have come, whether each account is told, whether the numbers of the entries are told too,
+-- and whether the accounts are written as JSON.
+pub record ExplainValue : Type 0 where
+  pub name : Text
+  pub folder : Text
+  pub at : ℕ
+  pub all : Bool
+  pub entries : Bool
+  pub json : Bool
+
 -- What a command line asks for: a command with its options. For `node` these are where its configuration comes from,
 -- for how many milliseconds it runs if it was said, whether it follows what changes, and whether it ends with its
 -- input. For a question to a running node they are the text of its address, and whether the answers are written as they
@@ -78,6 +89,7 @@ pub data Request : Type 0 where
   init : Request
   leave : Text → Text → Request
   replay : Text → ℕ → ℕ → Option Text → Request
+  explain : ExplainValue → Request
   version : Request
 
 -- whether the command of this name was met
@@ -103,6 +115,17 @@ replay_of_rows rows =
     replay (text_in rows (codes "folder")) (moment_in rows (codes "from") 0)
     (moment_in rows (codes "to") MAX_MOMENT) (first_of (codes "only") rows)
 
+-- `explain` with its options
+abbrev pub explain_of_rows : List Row → Request
+explain_of_rows rows = explain record {
+  name = text_in rows (codes "name");
+  folder = text_in rows (codes "record");
+  at = moment_in rows (codes "at") MAX_MOMENT;
+  all = flag_in rows (codes "all");
+  entries = flag_in rows (codes "entries");
+  json = flag_in rows (codes "json");
+}
+
 -- the command that was met, with its options
 abbrev pub request_of_rows : Option (Text × List Row) → Request
 request_of_rows met =
@@ -118,6 +141,7 @@ request_of_rows met =
     else if is_met (codes "init") met then init
     else if is_met (codes "leave") met then leave (text_in rows (codes "at")) (text_in rows (codes "name"))
     else if is_met (codes "replay") met then replay_of_rows rows
+    else if is_met (codes "explain") met then explain_of_rows rows
     else if is_met (codes "version") met then version
     else answer (text_in rows (codes "name"))
 
@@ -137,6 +161,7 @@ has_good_numbers (ask question at json) = true
 has_good_numbers init = true
 has_good_numbers (leave at name) = true
 has_good_numbers (replay folder from to only) = true
+has_good_numbers (explain value) = true
 has_good_numbers version = true
 
 -- the fault of numbers that aren't good
@@ -159,6 +184,7 @@ IfAnswer (ask question at json) P = Unit {0}
 IfAnswer init P = Unit {0}
 IfAnswer (leave at name) P = Unit {0}
 IfAnswer (replay folder from to only) P = Unit {0}
+IfAnswer (explain value) P = Unit {0}
 IfAnswer version P = Unit {0}
 
 -- a fact about the two texts of `order`: its names and its words
@@ -173,6 +199,7 @@ IfOrder (ask question at json) P = Unit {0}
 IfOrder init P = Unit {0}
 IfOrder (leave at name) P = Unit {0}
 IfOrder (replay folder from to only) P = Unit {0}
+IfOrder (explain value) P = Unit {0}
 IfOrder version P = Unit {0}
 
 -- a fact about the numbers of `timeouts`
@@ -187,6 +214,7 @@ IfTimeouts (ask question at json) P = Unit {0}
 IfTimeouts init P = Unit {0}
 IfTimeouts (leave at name) P = Unit {0}
 IfTimeouts (replay folder from to only) P = Unit {0}
+IfTimeouts (explain value) P = Unit {0}
 IfTimeouts version P = Unit {0}
 
 -- a fact that holds if `sim` is asked for
@@ -201,6 +229,7 @@ IfSim (ask question at json) P = Unit {0}
 IfSim init P = Unit {0}
 IfSim (leave at name) P = Unit {0}
 IfSim (replay folder from to only) P = Unit {0}
+IfSim (explain value) P = Unit {0}
 IfSim version P = Unit {0}
 
 -- a fact about the options of `node`: where its configuration comes from, its time, whether it follows, and whether it
@@ -216,6 +245,7 @@ IfNode (ask question at json) P = Unit {0}
 IfNode init P = Unit {0}
 IfNode (leave at name) P = Unit {0}
 IfNode (replay folder from to only) P = Unit {0}
+IfNode (explain value) P = Unit {0}
 IfNode version P = Unit {0}
 
 -- a fact about where the configuration of `check` comes from
@@ -230,6 +260,7 @@ IfCheck (ask question at json) P = Unit {0}
 IfCheck init P = Unit {0}
 IfCheck (leave at name) P = Unit {0}
 IfCheck (replay folder from to only) P = Unit {0}
+IfCheck (explain value) P = Unit {0}
 IfCheck version P = Unit {0}
 
 -- a fact about a question to a running node, the text of its address, and whether the answers are written as they come
@@ -244,6 +275,7 @@ IfAsk (ask question at json) P = P question at json
 IfAsk init P = Unit {0}
 IfAsk (leave at name) P = Unit {0}
 IfAsk (replay folder from to only) P = Unit {0}
+IfAsk (explain value) P = Unit {0}
 IfAsk version P = Unit {0}
 
 -- a fact that holds if `init` is asked for
@@ -258,6 +290,7 @@ IfInit (ask question at json) P = Unit {0}
 IfInit init P = P
 IfInit (leave at name) P = Unit {0}
 IfInit (replay folder from to only) P = Unit {0}
+IfInit (explain value) P = Unit {0}
 IfInit version P = Unit {0}
 
 -- a fact about the two texts of `leave`: the node's address and its name
@@ -272,6 +305,7 @@ IfLeave (ask question at json) P = Unit {0}
 IfLeave init P = Unit {0}
 IfLeave (leave at name) P = P at name
 IfLeave (replay folder from to only) P = Unit {0}
+IfLeave (explain value) P = Unit {0}
 IfLeave version P = Unit {0}
 
 -- a fact about the options of `replay`: the text of the folder, two moments, and the text of a member's name
@@ -286,7 +320,23 @@ IfReplay (ask question at json) P = Unit {0}
 IfReplay init P = Unit {0}
 IfReplay (leave at name) P = Unit {0}
 IfReplay (replay folder from to only) P = P folder from to only
+IfReplay (explain value) P = Unit {0}
 IfReplay version P = Unit {0}
+
+-- a fact about the options of `explain`
+abbrev pub IfExplain : Request → (ExplainValue → Type 0) → Type 0
+IfExplain (answer text) P = Unit {0}
+IfExplain (order names words) P = Unit {0}
+IfExplain (timeouts numbers) P = Unit {0}
+IfExplain sim P = Unit {0}
+IfExplain (node source for_ms follow until_input_ends) P = Unit {0}
+IfExplain (check source) P = Unit {0}
+IfExplain (ask question at json) P = Unit {0}
+IfExplain init P = Unit {0}
+IfExplain (leave at name) P = Unit {0}
+IfExplain (replay folder from to only) P = Unit {0}
+IfExplain (explain value) P = P value
+IfExplain version P = Unit {0}
 
 -- a fact that holds if `version` is asked for
 abbrev pub IfVersion : Request → Type 0 → Type 0
@@ -300,6 +350,7 @@ IfVersion (ask question at json) P = Unit {0}
 IfVersion init P = Unit {0}
 IfVersion (leave at name) P = Unit {0}
 IfVersion (replay folder from to only) P = Unit {0}
+IfVersion (explain value) P = Unit {0}
 IfVersion version P = P
 
 -- the status of a command line that isn't run: 0 if it asks for help or for the version
