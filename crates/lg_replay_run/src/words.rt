@@ -1,4 +1,4 @@
-//! Why a folder wasn't replayed to its end, in words.
+//! Why a folder wasn't read to its end, in words.
 //!
 //! Defined in: `specs/Meaning/Words.antt`.
 //! Tested in: `cases/recordings`.

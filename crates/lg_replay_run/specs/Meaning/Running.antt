@@ -7,7 +7,7 @@ use Rattle.lg_replay.specs.declared.window.Window.{Window}
 use Rattle.lg_replay.specs.Meaning.Folders.{LeavesBehind, ReplaysAll}
 use Rattle.lg_replay_run.specs.Meaning.Words.{replay_status, first_line, second_line}
 
--- It is told in two lines why a folder wasn't replayed to its end. If memory for the second is refused, there is none.
+-- It is told in two lines why a folder wasn't read to its end. If memory for the second is refused, there is none.
 pub record TellsFolderFault
     (reported reports : Reported) (folder : List ℕ) (fault : FolderFault) (status : ℕ) : Type 0 where
   pub second : List ℕ

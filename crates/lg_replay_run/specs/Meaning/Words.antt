@@ -1,5 +1,5 @@
--- The lines in words about a folder that wasn't replayed to its end, and the exit status of one that was (this
--- project's choice).
+-- The lines in words about a folder that wasn't read to its end, and the exit status of a replay (this project's
+-- choice).
 use Rattle.std.specs.Prelude.{ℕ, List, [], ◌++◌, codes, decimal}
 use Rattle.std.specs.declared.io.ErrorKind.{ErrorKind}
 use Rattle.std.specs.declared.io.ErrorKind.TheVariants as error
