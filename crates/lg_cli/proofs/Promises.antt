@@ -10,17 +10,19 @@ use Rattle.lg_run.specs.Meaning.Running.{RunsSource}
 use Rattle.lg_commands.specs.Meaning.Choosing.{order_text}
 use Rattle.lg_commands.specs.Meaning.Running.{FailsBy, RunsAnswer, RunsInit, RunsOrder, RunsSim, RunsTimeouts}
 use Rattle.lg_commands.specs.Meaning.Running.{RunsVersion}
+use Rattle.lg_commands.specs.Meaning.Explaining.{explained_of}
 use Rattle.lg_commands.specs.Meaning.Replaying.{part_of}
 use Rattle.lg_commands.specs.declared.timeouts.Numbers.{Numbers}
 use Rattle.lg_client.specs.Meaning.Leaving.{LeavesNode}
 use Rattle.lg_command_line.specs.declared.asked.Question.{Question}
 use Rattle.lg_command_line.specs.Meaning.Commands.{Request, answer, ask, check, init, leave, node, order, sim, timeouts}
-use Rattle.lg_command_line.specs.Meaning.Commands.{asked, line_faults, replay, version}
+use Rattle.lg_command_line.specs.Meaning.Commands.{asked, explain, ExplainValue, line_faults, replay, version}
 use Rattle.lg_command_line.specs.Meaning.Commands.{IfAnswer, IfAsk, IfCheck, IfInit, IfLeave, IfNode, IfOrder, IfSim, IfTimeouts}
-use Rattle.lg_command_line.specs.Meaning.Commands.{IfReplay, IfVersion}
+use Rattle.lg_command_line.specs.Meaning.Commands.{IfExplain, IfReplay, IfVersion}
 use Rattle.lg_command_line.specs.Meaning.Commands.{RefusesLine}
 use Rattle.lg_cli.specs.Meaning.Running.{Streams, RunsNamed, RunsLists, RunsNumbers, RunsScript, RunsNodeSource, RunsCheck}
-use Rattle.lg_cli.specs.Meaning.Running.{AsksNode, ReplaysPart, RunsAsking, RunsFirstFile, RunsLeaving, RunsOwnVersion, RunsReplay}
+use Rattle.lg_cli.specs.Meaning.Running.{AsksNode, ExplainsPart, form_of, ReplaysPart, RunsAsking, RunsExplain, RunsFirstFile}
+use Rattle.lg_cli.specs.Meaning.Running.{RunsLeaving, RunsOwnVersion, RunsReplay}
 use Rattle.lg_cli.specs.Meaning.Running.{RunsRequest, LacksUnread, LeavesUnread, RunsLine}
 
 abbrev IsCons : {X : Type 0} → List X → Type 0
@@ -43,6 +45,7 @@ NeedsNoMachine (ask question at json) = ⊥
 NeedsNoMachine init = Unit {0}
 NeedsNoMachine (leave at name) = ⊥
 NeedsNoMachine (replay folder from to only) = ⊥
+NeedsNoMachine (explain value) = ⊥
 NeedsNoMachine version = ⊥
 
 module _ (R W : Type 0) (before after : Streams R W) (status : ℕ) where
@@ -58,6 +61,7 @@ module _ (R W : Type 0) (before after : Streams R W) (status : ℕ) where
   of_answer P init run give = tt
   of_answer P (leave at name) run give = tt
   of_answer P (replay folder from to only) run give = tt
+  of_answer P (explain value) run give = tt
   of_answer P version run give = tt
 
   of_order : (P : List ℕ → List ℕ → Type 0) (r : Request) → RunsRequest before after r status
@@ -72,6 +76,7 @@ module _ (R W : Type 0) (before after : Streams R W) (status : ℕ) where
   of_order P init run give = tt
   of_order P (leave at name) run give = tt
   of_order P (replay folder from to only) run give = tt
+  of_order P (explain value) run give = tt
   of_order P version run give = tt
 
   of_timeouts : (P : Numbers → Type 0) (r : Request) → RunsRequest before after r status
@@ -86,6 +91,7 @@ module _ (R W : Type 0) (before after : Streams R W) (status : ℕ) where
   of_timeouts P init run give = tt
   of_timeouts P (leave at name) run give = tt
   of_timeouts P (replay folder from to only) run give = tt
+  of_timeouts P (explain value) run give = tt
   of_timeouts P version run give = tt
 
   of_sim : (P : Type 0) (r : Request) → RunsRequest before after r status
@@ -100,6 +106,7 @@ module _ (R W : Type 0) (before after : Streams R W) (status : ℕ) where
   of_sim P init run give = tt
   of_sim P (leave at name) run give = tt
   of_sim P (replay folder from to only) run give = tt
+  of_sim P (explain value) run give = tt
   of_sim P version run give = tt
 
   of_node : (P : SourceValue → Option ℕ → Bool → Type 0) (r : Request) → RunsRequest before after r status
@@ -115,6 +122,7 @@ module _ (R W : Type 0) (before after : Streams R W) (status : ℕ) where
   of_node P init run give = tt
   of_node P (leave at name) run give = tt
   of_node P (replay folder from to only) run give = tt
+  of_node P (explain value) run give = tt
   of_node P version run give = tt
 
   of_check : (P : SourceValue → Type 0) (r : Request) → RunsRequest before after r status
@@ -129,6 +137,7 @@ module _ (R W : Type 0) (before after : Streams R W) (status : ℕ) where
   of_check P init run give = tt
   of_check P (leave at name) run give = tt
   of_check P (replay folder from to only) run give = tt
+  of_check P (explain value) run give = tt
   of_check P version run give = tt
 
   of_ask : (P : Question → List ℕ → Bool → Type 0) (r : Request) → RunsRequest before after r status
@@ -145,6 +154,7 @@ module _ (R W : Type 0) (before after : Streams R W) (status : ℕ) where
   of_ask P init run give = tt
   of_ask P (leave at name) run give = tt
   of_ask P (replay folder from to only) run give = tt
+  of_ask P (explain value) run give = tt
   of_ask P version run give = tt
 
   of_init : (P : Type 0) (r : Request) → RunsRequest before after r status
@@ -159,6 +169,7 @@ module _ (R W : Type 0) (before after : Streams R W) (status : ℕ) where
   of_init P init run give = give run
   of_init P (leave at name) run give = tt
   of_init P (replay folder from to only) run give = tt
+  of_init P (explain value) run give = tt
   of_init P version run give = tt
 
   of_leave : (P : List ℕ → List ℕ → Type 0) (r : Request) → RunsRequest before after r status
@@ -173,6 +184,7 @@ module _ (R W : Type 0) (before after : Streams R W) (status : ℕ) where
   of_leave P init run give = tt
   of_leave P (leave at name) run give = give at name run
   of_leave P (replay folder from to only) run give = tt
+  of_leave P (explain value) run give = tt
   of_leave P version run give = tt
 
   of_replay : (P : List ℕ → ℕ → ℕ → Option (List ℕ) → Type 0) (r : Request) → RunsRequest before after r status
@@ -187,7 +199,23 @@ module _ (R W : Type 0) (before after : Streams R W) (status : ℕ) where
   of_replay P init run give = tt
   of_replay P (leave at name) run give = tt
   of_replay P (replay folder from to only) run give = give folder from to only run
+  of_replay P (explain value) run give = tt
   of_replay P version run give = tt
+
+  of_explain : (P : ExplainValue → Type 0) (r : Request) → RunsRequest before after r status
+      → ((value : ExplainValue) → RunsExplain before after value status → P value) → IfExplain r P
+  of_explain P (answer text) run give = tt
+  of_explain P (order names words) run give = tt
+  of_explain P (timeouts numbers) run give = tt
+  of_explain P sim run give = tt
+  of_explain P (node source for_ms follow until_input_ends) run give = tt
+  of_explain P (check source) run give = tt
+  of_explain P (ask question at json) run give = tt
+  of_explain P init run give = tt
+  of_explain P (leave at name) run give = tt
+  of_explain P (replay folder from to only) run give = tt
+  of_explain P (explain value) run give = give value run
+  of_explain P version run give = tt
 
   of_version : (P : Type 0) (r : Request) → RunsRequest before after r status
       → (RunsOwnVersion before after status → P) → IfVersion r P
@@ -201,6 +229,7 @@ module _ (R W : Type 0) (before after : Streams R W) (status : ℕ) where
   of_version P init run give = tt
   of_version P (leave at name) run give = tt
   of_version P (replay folder from to only) run give = tt
+  of_version P (explain value) run give = tt
   of_version P version run give = give run
 
   -- a run that failed, of a command that needs no machine
@@ -216,6 +245,7 @@ module _ (R W : Type 0) (before after : Streams R W) (status : ℕ) where
   run_fails init other run one = run.failed one
   run_fails (leave at name) other run one = absurd other
   run_fails (replay folder from to only) other run one = absurd other
+  run_fails (explain value) other run one = absurd other
   run_fails version other run one = absurd other
 
   -- such a run doesn't have the status of a refusal
@@ -230,6 +260,7 @@ module _ (R W : Type 0) (before after : Streams R W) (status : ℕ) where
   run_isnt_refused init other run = run.run
   run_isnt_refused (leave at name) other run = absurd other
   run_isnt_refused (replay folder from to only) other run = absurd other
+  run_isnt_refused (explain value) other run = absurd other
   run_isnt_refused version other run = absurd other
 
   lacks_fails : LacksUnread before after status → FailsBy before.reported after.reported before.writer after.writer
@@ -254,6 +285,7 @@ all_answer P (ask question at json) give = tt
 all_answer P init give = tt
 all_answer P (leave at name) give = tt
 all_answer P (replay folder from to only) give = tt
+all_answer P (explain value) give = tt
 all_answer P version give = tt
 
 all_order : (P : List ℕ → List ℕ → Type 0) (r : Request) → ((names words : List ℕ) → P names words) → IfOrder r P
@@ -267,6 +299,7 @@ all_order P (ask question at json) give = tt
 all_order P init give = tt
 all_order P (leave at name) give = tt
 all_order P (replay folder from to only) give = tt
+all_order P (explain value) give = tt
 all_order P version give = tt
 
 all_timeouts : (P : Numbers → Type 0) (r : Request) → ((numbers : Numbers) → P numbers) → IfTimeouts r P
@@ -280,6 +313,7 @@ all_timeouts P (ask question at json) give = tt
 all_timeouts P init give = tt
 all_timeouts P (leave at name) give = tt
 all_timeouts P (replay folder from to only) give = tt
+all_timeouts P (explain value) give = tt
 all_timeouts P version give = tt
 
 all_sim : (P : Type 0) (r : Request) → P → IfSim r P
@@ -293,6 +327,7 @@ all_sim P (ask question at json) give = tt
 all_sim P init give = tt
 all_sim P (leave at name) give = tt
 all_sim P (replay folder from to only) give = tt
+all_sim P (explain value) give = tt
 all_sim P version give = tt
 
 all_node : (P : SourceValue → Option ℕ → Bool → Type 0) (r : Request) → ((source : SourceValue) (for_ms : Option ℕ) (follow : Bool) → P source for_ms follow)
@@ -307,6 +342,7 @@ all_node P (ask question at json) give = tt
 all_node P init give = tt
 all_node P (leave at name) give = tt
 all_node P (replay folder from to only) give = tt
+all_node P (explain value) give = tt
 all_node P version give = tt
 
 all_check : (P : SourceValue → Type 0) (r : Request) → ((source : SourceValue) → P source) → IfCheck r P
@@ -320,6 +356,7 @@ all_check P (ask question at json) give = tt
 all_check P init give = tt
 all_check P (leave at name) give = tt
 all_check P (replay folder from to only) give = tt
+all_check P (explain value) give = tt
 all_check P version give = tt
 
 all_ask : (P : Question → List ℕ → Bool → Type 0) (r : Request)
@@ -334,6 +371,7 @@ all_ask P (ask question at json) give = give question at json
 all_ask P init give = tt
 all_ask P (leave at name) give = tt
 all_ask P (replay folder from to only) give = tt
+all_ask P (explain value) give = tt
 all_ask P version give = tt
 
 all_init : (P : Type 0) (r : Request) → P → IfInit r P
@@ -347,6 +385,7 @@ all_init P (ask question at json) give = tt
 all_init P init give = give
 all_init P (leave at name) give = tt
 all_init P (replay folder from to only) give = tt
+all_init P (explain value) give = tt
 all_init P version give = tt
 
 all_leave : (P : List ℕ → List ℕ → Type 0) (r : Request) → ((at name : List ℕ) → P at name) → IfLeave r P
@@ -360,6 +399,7 @@ all_leave P (ask question at json) give = tt
 all_leave P init give = tt
 all_leave P (leave at name) give = give at name
 all_leave P (replay folder from to only) give = tt
+all_leave P (explain value) give = tt
 all_leave P version give = tt
 
 all_replay : (P : List ℕ → ℕ → ℕ → Option (List ℕ) → Type 0) (r : Request)
@@ -374,7 +414,22 @@ all_replay P (ask question at json) give = tt
 all_replay P init give = tt
 all_replay P (leave at name) give = tt
 all_replay P (replay folder from to only) give = give folder from to only
+all_replay P (explain value) give = tt
 all_replay P version give = tt
+
+all_explain : (P : ExplainValue → Type 0) (r : Request) → ((value : ExplainValue) → P value) → IfExplain r P
+all_explain P (answer text) give = tt
+all_explain P (order names words) give = tt
+all_explain P (timeouts numbers) give = tt
+all_explain P sim give = tt
+all_explain P (node source for_ms follow until_input_ends) give = tt
+all_explain P (check source) give = tt
+all_explain P (ask question at json) give = tt
+all_explain P init give = tt
+all_explain P (leave at name) give = tt
+all_explain P (replay folder from to only) give = tt
+all_explain P (explain value) give = give value
+all_explain P version give = tt
 
 module _ (R W : Type 0) (before after : Streams R W) (line : List (List ℕ)) (status : ℕ) (runs : RunsLine before after line status) where
   -- the command's run, where memory wasn't refused for reading the line
@@ -596,12 +651,36 @@ module _ (R W : Type 0) (before after : Streams R W) (line : List (List ℕ)) (s
     | inr lacks ↦ all_replay (λ folder from to only. after.reader ≡ before.reader) (asked line) (λ folder from to only. lacks.0)
   ]
 
+  -- a member is explained, unless memory was refused for reading the line
+  pub explained : line_faults line ≡ [] → IfExplain (asked line) (λ value.
+      ExplainsPart before.writer after.writer before.held after.held before.reported after.reported
+      (explained_of value.folder value.name value.at value.all) (form_of value.entries value.json) status
+      ⊎ ((status ≡ 1) × FailsBy before.reported after.reported before.writer after.writer))
+  explained none = elim (runs.taken none) [
+    | inl run ↦ of_explain R W before after status (λ value.
+        ExplainsPart before.writer after.writer before.held after.held before.reported after.reported
+        (explained_of value.folder value.name value.at value.all) (form_of value.entries value.json) status
+        ⊎ ((status ≡ 1) × FailsBy before.reported after.reported before.writer after.writer)) (asked line) run
+        (λ value r. inl r.explained)
+    | inr lacks ↦ all_explain (λ value.
+        ExplainsPart before.writer after.writer before.held after.held before.reported after.reported
+        (explained_of value.folder value.name value.at value.all) (form_of value.entries value.json) status
+        ⊎ ((status ≡ 1) × FailsBy before.reported after.reported before.writer after.writer)) (asked line)
+        (λ value. inr (lacks.1.is, lacks_fails R W before after status lacks))
+  ]
+
+  pub explained_unread : line_faults line ≡ [] → IfExplain (asked line) (λ value. after.reader ≡ before.reader)
+  explained_unread none = elim (runs.taken none) [
+    | inl run ↦ of_explain R W before after status (λ value. after.reader ≡ before.reader) (asked line) run (λ value r. r.unread)
+    | inr lacks ↦ all_explain (λ value. after.reader ≡ before.reader) (asked line) (λ value. lacks.0)
+  ]
+
   -- `version` writes its text by the end of some file, unless the status says that something failed
   pub told : line_faults line ≡ [] → status ≢ 1 → IfVersion (asked line)
       ((end : List ℕ) × RunsVersion before.held after.held before.reported after.reported end status)
   told none other = of_version R W before after status _ (asked line) (run_of none other) (λ run. (run.told.end, run.told.written other))
 
-  -- unless `node`, `check`, `replay` or `version` is run, or a node is asked, a refusal writes nothing
+  -- unless `node`, `check`, `replay`, `explain` or `version` is run, or a node is asked, a refusal writes nothing
   pub unwritten : (line_faults line ≡ [] → NeedsNoMachine (asked line)) → status ≡ 2
       → after.writer ≡ before.writer
   unwritten other two = elim (nil_or (line_faults line)) [

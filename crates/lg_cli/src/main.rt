@@ -3,6 +3,7 @@
 
 mod ask;
 mod ending;
+mod explain;
 mod node;
 mod output;
 mod program;

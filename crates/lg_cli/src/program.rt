@@ -9,12 +9,13 @@ ghost use Rattle.lg_text.specs.Meaning.Faults.{run_fault_text};
 ghost use Rattle.lg_text.specs.Meaning.Reporting.{Reports};
 ghost use Rattle.lg_commands.specs.Meaning.Timeouts.{are_good};
 ghost use Rattle.lg_command_line.specs.Meaning.Commands.{IfAsk, IfCheck, IfLeave, IfNode, IfTimeouts};
-ghost use Rattle.lg_command_line.specs.Meaning.Commands.{IfReplay, IfVersion};
+ghost use Rattle.lg_command_line.specs.Meaning.Commands.{IfExplain, IfReplay, IfVersion};
 ghost use Rattle.lg_command_line.specs.Support.Requests.{request_of};
 ghost use Rattle.lg_cli.specs.Meaning.Faults.{foreign_text};
 ghost use Rattle.lg_cli.specs.Meaning.Running.{streams, RunsLine, RunsRequest};
 
 use crate::ask::{AskWords, ask_node};
+use crate::explain::explain_part;
 use crate::node::{NodeWords, Owned, begin_node};
 use crate::output::Pumped;
 use crate::replay::{ReplayWords, replay_part};
@@ -41,24 +42,24 @@ use std::{io, rt};
 /// `reader`, `writer` and `faults` stand for standard input, output and error. Only `answer` and `sim` read. `owned`
 /// has standard input and output too, for the threads of `node --until-input-ends` and `node --follow`
 /// ([`begin_node`]). A line that `faults` doesn't take is dropped. `node`, `check`, `members`, `status`, `watch`,
-/// `leave`, `replay` and `version` alone use the machine `rt`. The first two read their file, if one is named. `node`
-/// takes sockets, a clock and threads, writes its members, and tells its end, with the statuses of [`run_bytes`]. If
-/// its file gives no bytes, or its stop flag can't be had, it isn't run, and has the status of [`begin_node`]. `check`
-/// has those of [`check_source`]. `replay` lists a folder and reads files of it, and has the statuses of
-/// [`replay_recording`](lg_replay_run::replay_recording). `version` reads the end of the program's own file
-/// ([`tell_version`]). The other four ask a running node, with the statuses of
-/// [`tell_answer`](lg_client::tell_answer), [`watch_changes`](lg_client::watch_changes) and [`leave_node`]. The
-/// statuses of all other command lines are:
+/// `leave`, `replay`, `explain` and `version` alone use the machine `rt`. The first two read their file, if one is
+/// named. `node` takes sockets, a clock and threads, writes its members, and tells its end, with the statuses of
+/// [`run_bytes`]. If its file gives no bytes, or its stop flag can't be had, it isn't run, and has the status of
+/// [`begin_node`]. `check` has those of [`check_source`]. `replay` and `explain` list a folder and read files of it,
+/// and have the statuses of [`replay_recording`](lg_replay_run::replay_recording) and
+/// [`explain_recording`](lg_explain_run::explain_recording). `version` reads the end of the program's own file
+/// ([`tell_version`]). The other four ask a running node, with the statuses of [`tell_answer`](lg_client::tell_answer),
+/// [`watch_changes`](lg_client::watch_changes) and [`leave_node`]. The statuses of all other command lines are:
 ///
 /// - 0 if all was done. This includes help and the version, if they were asked for and written.
 /// - 1 if memory, a read or a write failed. That is reported as `lg: memory`, `lg: read` or `lg: write`. A second line
 ///   says why standard input couldn't be read, or standard output written ([`RunFault::text`]).
 /// - 2 if the command line is refused, which is reported by a text of the parser. Nothing is read or written then.
-/// - 3 for bad input. If the text of `--name` is no name, `lg: bad names` is reported and nothing is read. If the
-///   text of `--names` is no list of 1 to 255 different names, `lg: bad names` is reported. If the text of a folder is
-///   no path, `lg: bad folder` is reported, and if that of `--only` is no name, `lg: bad names`. If the text of
-///   `--words` is no list of words, `lg: bad words` is reported. If a line of the input of `answer` or `sim` is faulty,
-///   nothing is reported.
+/// - 3 for bad input. If the text of `--name` is no name, `lg: bad names` is reported and nothing is read. If the text
+///   of `--names` is no list of 1 to 255 different names, `lg: bad names` is reported. If the text of a folder is no
+///   path, `lg: bad folder` is reported, and if that of `--only` or of the member is no name, `lg: bad names`. If the
+///   text of `--words` is no list of words, `lg: bad words` is reported. If a line of the input of `answer` or `sim` is
+///   faulty, nothing is reported.
 ///
 /// No contract says what the texts of help, of the version and of a refusal are: they are the parser's.
 pub fn run_words<M, S, I, O, R, W, F>(
@@ -188,6 +189,7 @@ where
             };
             replay_part(rt, alloc, &words, writer, faults)
         }
+        Asked::Explain { words } => explain_part(rt, alloc, &words, writer, faults),
         Asked::Version => tell_version(rt, alloc, writer, faults),
         _ => run_without_machine(alloc, asked, reader, writer, faults),
     }
@@ -210,6 +212,7 @@ where
     requires no_question { IfAsk (request_of asked) (λ question at json. ⊥) }
     requires no_leave { IfLeave (request_of asked) (λ at name. ⊥) }
     requires no_replay { IfReplay (request_of asked) (λ folder from to only. ⊥) }
+    requires no_explain { IfExplain (request_of asked) (λ value. ⊥) }
     requires no_version { IfVersion (request_of asked) ⊥ }
     requires good { IfTimeouts (request_of asked) (λ numbers. are_good numbers ≡ true) }
     ensures { RunsRequest
@@ -228,6 +231,7 @@ where
         | Asked::Ask { .. }
         | Asked::Leave { .. }
         | Asked::Replay { .. }
+        | Asked::Explain { .. }
         | Asked::Version => unreachable!(),
     }
 }

@@ -1,5 +1,5 @@
 -- How a command line is run, and what becomes of one that isn't.
-use Rattle.std.specs.Prelude.{◌≡◌, ◌≢◌, ◌⊎◌, Bool, IfOk, ℕ, true, List, [], Option, Result, Ok, Err}
+use Rattle.std.specs.Prelude.{◌≡◌, ◌≢◌, ◌⊎◌, Bool, IfOk, ℕ, true, List, [], Option, Result, Ok, Err, if◌then◌else◌}
 use Rattle.std.specs.Result.{is_err}
 use Rattle.lg_rules.specs.Meaning.Name.{name_of_text}
 use Rattle.lg_text.specs.Meaning.Reporting.{Reported}
@@ -7,11 +7,17 @@ use Rattle.lg_text.specs.Meaning.Running.{ReadsWhole}
 use Rattle.lg_commands.specs.Meaning.Choosing.{order_text}
 use Rattle.lg_commands.specs.Meaning.Running.{FailsBy, RunsAnswer, RunsInit, RunsOrder, RunsSim, RunsTimeouts}
 use Rattle.lg_commands.specs.Meaning.Running.{RunsVersion}
+use Rattle.lg_commands.specs.Meaning.Explaining.{explained_of}
 use Rattle.lg_commands.specs.Meaning.Replaying.{part_of, TellsBadPart}
-use Rattle.lg_commands.specs.declared.replay.BadPart.{BadPart}
+use Rattle.lg_commands.specs.declared.bad_part.BadPart.{BadPart}
+use Rattle.lg_commands.specs.declared.explain.ExplainPart.{ExplainPart}
 use Rattle.lg_commands.specs.declared.replay.RecordingPart.{RecordingPart}
 use Rattle.lg_commands.specs.declared.timeouts.Numbers.{Numbers}
 use Rattle.lg_config.specs.Meaning.Options.{SourceValue}
+use Rattle.lg_explain.specs.declared.question.Question.{Question as MemberQuestion}
+use Rattle.lg_explain_run.specs.declared.form.AccountForm.{AccountForm}
+use Rattle.lg_explain_run.specs.declared.form.AccountForm.TheVariants.{Json, Lines, NumberedLines}
+use Rattle.lg_explain_run.specs.Meaning.Running.{ExplainsFolder}
 use Rattle.lg_replay.specs.declared.window.Window.{Window}
 use Rattle.lg_replay_run.specs.Meaning.Running.{ReplaysFolder}
 use Rattle.lg_run.specs.Meaning.Checking.{ChecksSource}
@@ -23,7 +29,7 @@ use Rattle.lg_client.specs.Meaning.Watching.{WatchesChanges}
 use Rattle.lg_command_line.specs.declared.asked.Question.{Question}
 use Rattle.lg_command_line.specs.declared.asked.Question.TheVariants.{Members, Status, Watch}
 use Rattle.lg_command_line.specs.Meaning.Commands.{Request, answer, ask, check, init, leave, node, order, sim}
-use Rattle.lg_command_line.specs.Meaning.Commands.{replay, timeouts, version}
+use Rattle.lg_command_line.specs.Meaning.Commands.{explain, ExplainValue, replay, timeouts, version}
 use Rattle.lg_command_line.specs.Meaning.Commands.{asked, line_faults}
 use Rattle.lg_command_line.specs.Meaning.Leaving.{LacksMemory, LeavesLine}
 
@@ -139,7 +145,7 @@ abbrev pub ReplaysPart :
 ReplaysPart before after held holds reported reports (Ok part) status =
     ReplaysFolder held holds reported reports part.folder (window_of part) status
 ReplaysPart before after held holds reported reports (Err bad) status =
-    (after ≡ before) × TellsBadPart reported reports (Err bad) status
+    (after ≡ before) × TellsBadPart {Part = RecordingPart} reported reports (Err bad) status
 
 -- `replay` is run. Nothing is read from the reader.
 pub record RunsReplay
@@ -147,6 +153,30 @@ pub record RunsReplay
     : Type 0 where
   pub replayed : ReplaysPart before.writer after.writer before.held after.held before.reported after.reported
       (part_of folder from to only) status
+  pub unread : after.reader ≡ before.reader
+
+-- what is asked about a member, by what `explain` tells
+abbrev pub question_of : ExplainPart → MemberQuestion
+question_of part = record { name = part.name; at = part.at; all = part.all }
+
+-- how the accounts are written, by whether the numbers of the entries are told too, and whether they are JSON
+abbrev pub form_of : (entries json : Bool) → AccountForm
+form_of entries json = if json then Json else if entries then NumberedLines else Lines
+
+-- What `explain` does by what its texts mean: it tells about the member from the recording in the folder. If a text is
+-- bad, that is told, and nothing is written.
+abbrev pub ExplainsPart :
+    {W : Type 0} → (before after : W) (held holds : Option (List ℕ)) (reported reports : Reported)
+    → Result ExplainPart BadPart → AccountForm → (status : ℕ) → Type 0
+ExplainsPart before after held holds reported reports (Ok part) form status =
+    ExplainsFolder held holds reported reports part.folder (question_of part) form status
+ExplainsPart before after held holds reported reports (Err bad) form status =
+    (after ≡ before) × TellsBadPart {Part = ExplainPart} reported reports (Err bad) status
+
+-- `explain` is run. Nothing is read from the reader.
+pub record RunsExplain {R W : Type 0} (before after : Streams R W) (value : ExplainValue) (status : ℕ) : Type 0 where
+  pub explained : ExplainsPart before.writer after.writer before.held after.held before.reported after.reported
+      (explained_of value.folder value.name value.at value.all) (form_of value.entries value.json) status
   pub unread : after.reader ≡ before.reader
 
 -- What `version` writes, by the end of the program's own file. What a file holds no contract can say.
@@ -186,6 +216,7 @@ RunsRequest before after (ask question at json) status = RunsAsking before after
 RunsRequest before after init status = RunsFirstFile before after status
 RunsRequest before after (leave at name) status = RunsLeaving before after at name status
 RunsRequest before after (replay folder from to only) status = RunsReplay before after folder from to only status
+RunsRequest before after (explain value) status = RunsExplain before after value status
 RunsRequest before after version status = RunsOwnVersion before after status
 
 -- A command line that is taken runs its command, and any other is left; or memory was refused for reading it. Nothing

@@ -85,3 +85,18 @@ returns-in-Replay g c =
       replayed = ran.ensures;
       unread = refl {a = reader};
     })
+
+pub returns-in-Explain : goal.returns-in-Explain
+returns-in-Explain g c =
+    let remaining = g.R.Read.remaining in
+    let contents = g.W.Write.contents in
+    let reported = g.F.FaultStream.reported in
+    let reader = c.args.reader.now in
+    let ran = c.explain_part in
+    let before = streams reader (remaining reader) c.args.writer.now (contents c.args.writer.now) (reported c.args.faults.now) in
+    let after = streams reader (remaining reader) ran.new.writer (contents ran.new.writer) (reported ran.new.faults) in
+    found-runs before after ran.result c.in-Explain.is
+    (record {
+      explained = ran.ensures;
+      unread = refl {a = reader};
+    })
