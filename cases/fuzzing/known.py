@@ -22,8 +22,15 @@ class Suspicion:
     counted: int
     accusers: list
 
+    def confirmations(self):
+        return len(self.accusers) - 1
+
+    def lasts(self):
+        """Its timeout, after the confirmations so far."""
+        return timeout(self.least, self.most, self.counted, self.confirmations())
+
     def deadline(self):
-        return self.raised + timeout(self.least, self.most, self.counted, len(self.accusers) - 1)
+        return self.raised + self.lasts()
 
 
 class Known:
@@ -54,6 +61,11 @@ class Known:
 
     def live(self):
         return 1 + sum(record.status not in GONE for record in self.records.values())
+
+    def suspicion_of(self, name):
+        """A member's suspicion as it is now. None if there is none."""
+        found = self.suspicions.get(name)
+        return found and replace(found, accusers=list(found.accusers))
 
     def mark(self, points):
         self.score = max(0, min(self.config["max_score"], self.score + points))

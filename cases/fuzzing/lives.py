@@ -310,16 +310,16 @@ def damaged_file(dice, data):
     return damaged(dice, data) if how < 0.9 else damaged(dice, data[:4]) + data[4:]
 
 
-def recording_of(dice):
-    """The files of a recording, of each its name and its bytes."""
+def recording_of(dice, kind_of_node=Node, changes=CHANGES):
+    """The files of a recording, of each its name and its bytes: lives of nodes of a kind, with some of these changes."""
     names, now, files = names_of(dice)[:8], dice.choice([0, 20, 10**6]), []
     for _ in range(dice.choice([1, 1, 1, 2, 3])):
         count = dice.choice([3, 12, MOST_EVENTS])
-        node = Node(dice, names, now, {dice.randrange(1, count) for _ in range(dice.choice([0, 0, 1, 3]))})
+        node = kind_of_node(dice, names, now, {dice.randrange(1, count) for _ in range(dice.choice([0, 0, 1, 3]))})
         node.live(count)
         files += node.files()
     for _ in range(dice.choice([0, 1, 1, 1, 1, 2])):
-        dice.choice(CHANGES)(dice, files, names)
+        dice.choice(changes)(dice, files, names)
     number, found = dice.choice([-1, 0, 1, 9_999_999_000]), []
     for head, bodies in files:
         number += dice.choice([1, 1, 1, 5])
