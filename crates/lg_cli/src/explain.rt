@@ -15,12 +15,14 @@ use std::alloc::Global;
 use std::io::Write;
 use std::rt::Files;
 
-/// How the accounts are written. JSON has the numbers of the entries in any case.
-fn form_of(entries: bool, json: bool) -> AccountForm
-    ensures { result ≡ form_of entries json }
+/// How the accounts are written. JSON has the numbers of the entries in any case, and a page has none.
+fn form_of(entries: bool, json: bool, html: bool) -> AccountForm
+    ensures { result ≡ form_of entries json html }
 {
     if json {
         AccountForm::Json
+    } else if html {
+        AccountForm::Page
     } else if entries {
         AccountForm::NumberedLines
     } else {
@@ -44,7 +46,7 @@ where
     ensures { ExplainsPart writer.old writer.new (W.contents writer.old) (W.contents writer.new)
         (F.reported faults.old) (F.reported faults.new)
         (explained_of words.now.folder.now words.now.name.now words.now.at words.now.all)
-        (form_of words.now.entries words.now.json) result }
+        (form_of words.now.entries words.now.json words.now.html) result }
 {
     let part = match part_to_explain(words.folder, words.name, words.at, words.all, faults) {
         Ok(part) => part,
@@ -55,7 +57,7 @@ where
         at: part.at,
         all: part.all,
     };
-    let form = form_of(words.entries, words.json);
+    let form = form_of(words.entries, words.json, words.html);
     explain_recording(
         rt,
         alloc,

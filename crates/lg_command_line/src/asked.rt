@@ -44,6 +44,8 @@ pub struct ExplainWords<'a> {
     pub entries: bool,
     /// Whether the accounts are written as JSON, in place of lines.
     pub json: bool,
+    /// Whether the accounts are written as a page of HTML, in place of lines.
+    pub html: bool,
 }
 
 /// What a command line asks for.

@@ -243,6 +243,11 @@ const COMMANDS: [CommandRow<'static>; 14] = [
                 takes: Takes::Nothing,
                 help: "Writes JSON in place of lines",
             },
+            OptionRow {
+                id: "html",
+                takes: Takes::Nothing,
+                help: "Writes a page for a browser in place of lines",
+            },
         ],
         keys: &[],
     },

@@ -16,7 +16,7 @@ use Rattle.lg_commands.specs.declared.timeouts.Numbers.{Numbers}
 use Rattle.lg_config.specs.Meaning.Options.{SourceValue}
 use Rattle.lg_explain.specs.declared.question.Question.{Question as MemberQuestion}
 use Rattle.lg_explain_run.specs.declared.form.AccountForm.{AccountForm}
-use Rattle.lg_explain_run.specs.declared.form.AccountForm.TheVariants.{Json, Lines, NumberedLines}
+use Rattle.lg_explain_run.specs.declared.form.AccountForm.TheVariants.{Json, Lines, NumberedLines, Page}
 use Rattle.lg_explain_run.specs.Meaning.Running.{ExplainsFolder}
 use Rattle.lg_replay.specs.declared.window.Window.{Window}
 use Rattle.lg_replay_run.specs.Meaning.Running.{ReplaysFolder}
@@ -160,8 +160,9 @@ abbrev pub question_of : ExplainPart → MemberQuestion
 question_of part = record { name = part.name; at = part.at; all = part.all }
 
 -- how the accounts are written, by whether the numbers of the entries are told too, and whether they are JSON
-abbrev pub form_of : (entries json : Bool) → AccountForm
-form_of entries json = if json then Json else if entries then NumberedLines else Lines
+abbrev pub form_of : (entries json html : Bool) → AccountForm
+form_of entries json html =
+    if json then Json else if html then Page else if entries then NumberedLines else Lines
 
 -- What `explain` does by what its texts mean: it tells about the member from the recording in the folder. If a text is
 -- bad, that is told, and nothing is written.
@@ -176,7 +177,7 @@ ExplainsPart before after held holds reported reports (Err bad) form status =
 -- `explain` is run. Nothing is read from the reader.
 pub record RunsExplain {R W : Type 0} (before after : Streams R W) (value : ExplainValue) (status : ℕ) : Type 0 where
   pub explained : ExplainsPart before.writer after.writer before.held after.held before.reported after.reported
-      (explained_of value.folder value.name value.at value.all) (form_of value.entries value.json) status
+      (explained_of value.folder value.name value.at value.all) (form_of value.entries value.json value.html) status
   pub unread : after.reader ≡ before.reader
 
 -- What `version` writes, by the end of the program's own file. What a file holds no contract can say.

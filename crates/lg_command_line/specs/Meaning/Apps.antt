@@ -138,8 +138,8 @@ explain_app =
     let name = with_rule (new_app (codes "explain")) (word_rule (codes "name")) in
     let folder = with_rule name (text_rule (codes "record")) in
     let at = with_rule folder (number_rule (codes "at") 0 MAX_MOMENT) in
-    with_rule (with_rule (with_rule at (flag_rule (codes "all"))) (flag_rule (codes "entries")))
-    (flag_rule (codes "json"))
+    let parts = with_rule (with_rule at (flag_rule (codes "all"))) (flag_rule (codes "entries")) in
+    with_rule (with_rule parts (flag_rule (codes "json"))) (flag_rule (codes "html"))
 
 -- The program has the commands `answer`, `order`, `timeouts`, `sim`, `node`, `check` and `init`, and `members`,
 -- `status`, `watch` and `leave`, which ask a running node, and `replay`, `explain` and `version`. One of them has to be

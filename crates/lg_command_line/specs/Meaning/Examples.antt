@@ -331,6 +331,7 @@ latest-account :
       all = false;
       entries = false;
       json = false;
+      html = false;
     }
 unfolding asked clap_on_literals
 latest-account = refl
@@ -343,9 +344,31 @@ latest-account-taken = refl
 all-accounts :
     asked (codes "lg" ∷ codes "explain" ∷ codes "--record=a" ∷ codes "--all" ∷ codes "--at=70" ∷ codes "c"
     ∷ codes "--entries" ∷ codes "--json" ∷ [])
-    ≡ explain record { name = codes "c"; folder = codes "a"; at = 70; all = true; entries = true; json = true }
+    ≡ explain record {
+      name = codes "c";
+      folder = codes "a";
+      at = 70;
+      all = true;
+      entries = true;
+      json = true;
+      html = false;
+    }
 unfolding asked clap_on_literals
 all-accounts = refl
+
+as-a-page :
+    asked (codes "lg" ∷ codes "explain" ∷ codes "c" ∷ codes "--record=a" ∷ codes "--html" ∷ [])
+    ≡ explain record {
+      name = codes "c";
+      folder = codes "a";
+      at = 1000000000000000;
+      all = false;
+      entries = false;
+      json = false;
+      html = true;
+    }
+unfolding asked clap_on_literals
+as-a-page = refl
 
 at-no-moment :
     line_faults (codes "lg" ∷ codes "explain" ∷ codes "c" ∷ codes "--record=a" ∷ codes "--at=1000000000000001" ∷ [])
