@@ -9,7 +9,7 @@ ghost use Rattle.lg_cli.specs.Meaning.Running.{ExplainsPart, form_of};
 
 use lg_command_line::ExplainWords;
 use lg_commands::part_to_explain;
-use lg_explain_run::{AccountForm, Question, explain_recording};
+use lg_explain_run::{AccountForm, MemberQuestion, explain_recording};
 use lg_text::FaultStream;
 use std::alloc::Global;
 use std::io::Write;
@@ -52,7 +52,7 @@ where
         Ok(part) => part,
         Err(status) => return status,
     };
-    let question = Question {
+    let question = MemberQuestion {
         name: part.name,
         at: part.at,
         all: part.all,

@@ -7,5 +7,5 @@ mod form;
 mod running;
 
 pub use form::AccountForm;
-pub use lg_explain::Question;
+pub use lg_explain::MemberQuestion;
 pub use running::explain_recording;

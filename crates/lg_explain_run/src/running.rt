@@ -8,7 +8,7 @@ ghost use Rattle.lg_explain_run.specs.Meaning.Running.{ExplainsFolder, LacksAcco
 
 use crate::form::{AccountForm, text_of};
 use lg_accounts::Account;
-use lg_explain::{Question, explain_folder};
+use lg_explain::{MemberQuestion, explain_folder};
 use lg_replay::FolderFault;
 use lg_replay_run::tell_fault;
 use lg_text::{FaultStream, write_whole};
@@ -26,7 +26,7 @@ pub fn explain_recording<R, W, F>(
     rt: &R,
     alloc: Global,
     folder: &str,
-    question: &Question,
+    question: &MemberQuestion,
     form: AccountForm,
     writer: &mut W,
     faults: &mut F,
@@ -49,7 +49,7 @@ fn tell_accounts<R, W>(
     rt: &R,
     alloc: Global,
     folder: &str,
-    question: &Question,
+    question: &MemberQuestion,
     form: AccountForm,
     writer: &mut W,
 ) -> Result<u8, FolderFault>

@@ -14,7 +14,7 @@ use Rattle.lg_commands.specs.declared.explain.ExplainPart.{ExplainPart}
 use Rattle.lg_commands.specs.declared.replay.RecordingPart.{RecordingPart}
 use Rattle.lg_commands.specs.declared.timeouts.Numbers.{Numbers}
 use Rattle.lg_config.specs.Meaning.Options.{SourceValue}
-use Rattle.lg_explain.specs.declared.question.Question.{Question as MemberQuestion}
+use Rattle.lg_explain.specs.declared.question.MemberQuestion.{MemberQuestion}
 use Rattle.lg_explain_run.specs.declared.form.AccountForm.{AccountForm}
 use Rattle.lg_explain_run.specs.declared.form.AccountForm.TheVariants.{Json, Lines, NumberedLines, Page}
 use Rattle.lg_explain_run.specs.Meaning.Running.{ExplainsFolder}

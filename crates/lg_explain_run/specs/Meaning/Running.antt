@@ -8,7 +8,7 @@ use Rattle.lg_accounts.specs.declared.account.Account.{Account}
 use Rattle.lg_accounts.specs.Meaning.Accounts.{accounts_text}
 use Rattle.lg_accounts.specs.Meaning.Json.{accounts_json}
 use Rattle.lg_accounts.specs.Meaning.Pages.{accounts_page}
-use Rattle.lg_explain.specs.declared.question.Question.{Question}
+use Rattle.lg_explain.specs.declared.question.MemberQuestion.{MemberQuestion}
 use Rattle.lg_explain.specs.Meaning.Folders.{ExplainsAll}
 use Rattle.lg_replay.specs.declared.fault.FolderFault.{FolderFault}
 use Rattle.lg_replay.specs.declared.fault.FolderFault.TheVariants.{Unlisted, NoFile, Unread, TooLarge, Memory, Write}
@@ -30,7 +30,7 @@ accounts_status (account ∷ accounts) = 0
 
 -- The accounts of some files, in the order of their numbers, were written. No contract can say what a folder has.
 pub record TellsAccounts
-    (held holds : Option (List ℕ)) (question : Question) (form : AccountForm) (status : ℕ) : Type 0 where
+    (held holds : Option (List ℕ)) (question : MemberQuestion) (form : AccountForm) (status : ℕ) : Type 0 where
   pub accounts : List Account
   pub explains : ExplainsAll false [] [] question accounts
   pub wrote : Appends held holds (written_accounts form question.name accounts)
@@ -38,13 +38,13 @@ pub record TellsAccounts
 
 -- the same, but only a beginning was written
 pub record BeginsAccounts
-    (held holds : Option (List ℕ)) (question : Question) (form : AccountForm) : Type 0 where
+    (held holds : Option (List ℕ)) (question : MemberQuestion) (form : AccountForm) : Type 0 where
   pub accounts : List Account
   pub explains : ExplainsAll false [] [] question accounts
   pub wrote : AppendsFront held holds (written_accounts form question.name accounts)
 
 -- The accounts weren't written. Nothing was, unless it is the writing that failed.
-abbrev pub LacksAccounts : (held holds : Option (List ℕ)) → Question → AccountForm → FolderFault → Type 0
+abbrev pub LacksAccounts : (held holds : Option (List ℕ)) → MemberQuestion → AccountForm → FolderFault → Type 0
 LacksAccounts held holds question form (Unlisted kind) = holds ≡ held
 LacksAccounts held holds question form NoFile = holds ≡ held
 LacksAccounts held holds question form (Unread number kind) = holds ≡ held
@@ -60,7 +60,7 @@ TellsExplained reported reports folder (Err fault) status = TellsFolderFault rep
 
 -- What the recording in a folder tells of a member is written, whatever the folder has, and how that went is told.
 pub record ExplainsFolder
-    (held holds : Option (List ℕ)) (reported reports : Reported) (folder : List ℕ) (question : Question)
+    (held holds : Option (List ℕ)) (reported reports : Reported) (folder : List ℕ) (question : MemberQuestion)
     (form : AccountForm) (status : ℕ)
     : Type 0 where
   pub explained : Result ℕ FolderFault
