@@ -1,6 +1,8 @@
-//! Tests of accounts of a member: their text, their JSON and their verdicts.
+//! Tests of accounts of a member: by the files of a recording, and their text, their JSON and their verdicts.
 #![tactic(auto)]
 
+#[cfg(test)]
+mod explaining;
 #[cfg(test)]
 mod making;
 #[cfg(test)]

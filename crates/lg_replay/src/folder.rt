@@ -60,8 +60,14 @@ pub trait RecordingFiles {
         ensures { tells ≡ true → past self.new ≡ Read number bytes.new.items result ∷ past self.old };
 }
 
-/// The numbers of the files.
-fn list_numbers<S: RecordingFiles>(alloc: Global, files: &mut S) -> Result<Vec<u64>, FolderFault>
+/// The numbers of the files, in ascending order, of which there has to be one at least. They are listed once. Allocates
+/// memory for the list.
+///
+/// The error is [`FolderFault::Unlisted`], [`FolderFault::NoFile`], or that memory was refused.
+pub fn list_numbers<S: RecordingFiles>(
+    alloc: Global,
+    files: &mut S,
+) -> Result<Vec<u64>, FolderFault>
     ensures listed { IfOk result (λ numbers. ListsFiles S.tells (S.past files.old) (S.past files.new) numbers.items) }
     ensures fault { IfErr result (FailsAtList S.tells (S.past files.old) (S.past files.new)) }
 {
@@ -78,8 +84,10 @@ fn list_numbers<S: RecordingFiles>(alloc: Global, files: &mut S) -> Result<Vec<u
     }
 }
 
-/// The bytes of the file with a number.
-fn read_bytes<S: RecordingFiles>(
+/// The bytes of the file with a number. It is read once. Allocates memory for the bytes.
+///
+/// The error is [`FolderFault::Unread`], [`FolderFault::TooLarge`], or that memory was refused.
+pub fn read_bytes<S: RecordingFiles>(
     alloc: Global,
     files: &mut S,
     number: u64,

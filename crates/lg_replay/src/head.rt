@@ -15,7 +15,7 @@ use std::alloc::Global;
 /// Reads the head of a file. Only its table is allocated. The error is the first fault from the left, or that memory
 /// was refused.
 #[tactic(auto, unfolding(crate::specs::Meaning::Heads::file_head_scan))]
-pub(crate) fn read_file_head<'a>(
+pub fn read_file_head<'a>(
     alloc: Global,
     reader: &mut FieldReader<'a>,
 ) -> Result<Head<'a>, HeadFault>

@@ -13,18 +13,18 @@ use std::alloc::{AllocError, Global};
 /// What is known of a life: the detector behind all that happened, unless some of it is missing, and how many packets
 /// were sent.
 #[derive(Drop)]
-pub(crate) struct Known {
+pub struct Known {
     /// The detector behind the events that are known.
-    pub(crate) detector: Detector,
+    pub detector: Detector,
     /// Whether these are all events since the opening. If they aren't, the detector counts for nothing.
-    pub(crate) is_known: bool,
-    /// How many packets were sent since the life began.
+    pub is_known: bool,
+    /// How many packets were sent since the life began, as far as they were counted.
     pub(crate) sent: u64,
 }
 
 impl Known {
     /// Nothing is known. Allocates a detector; the only error is that memory was refused.
-    pub(crate) fn new(alloc: Global) -> Result<Known, NoMemory>
+    pub fn new(alloc: Global) -> Result<Known, NoMemory>
         ensures { IfOk result (λ known. IsKnown known unknown_life) }
     {
         let detector = Detector::blank(alloc)?;
@@ -47,7 +47,7 @@ impl Known {
 
     /// Goes on with a file whose first entry has this number. With the number 0 a life begins, and a detector is
     /// allocated; the only error is that memory was refused.
-    pub(crate) fn enter(&mut self, alloc: Global, first: u64) -> Result<(), NoMemory>
+    pub fn enter(&mut self, alloc: Global, first: u64) -> Result<(), NoMemory>
         ensures { OnOk result ((life : Life) → IsKnown self.old life → IsKnown self.new (life_from first life)) }
     {
         if first == 0 {
@@ -61,7 +61,7 @@ impl Known {
 
     /// Lets an event happen, and writes the reply that is due, if one is. If the event isn't accepted behind what is
     /// known, or if nothing is, then nothing is known behind it. Says whether a reply is due.
-    pub(crate) fn follow(&mut self, event: &Event, reply: &mut Reply) -> bool
+    pub fn follow(&mut self, event: &Event, reply: &mut Reply) -> bool
         ensures past { (past : Option (List Happened)) → HoldsPast self.old past
             → HoldsPast self.new (past_with past event.now) }
         ensures due { (past : Option (List Happened)) → HoldsPast self.old past

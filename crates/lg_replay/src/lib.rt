@@ -34,9 +34,13 @@ pub use counts::ReplayCounts;
 pub use disk::DiskFiles;
 pub use end::ReplayEnd;
 pub use fault::FolderFault;
-pub use folder::{MAX_FILE_BYTES, RecordingFiles, Replayed, replay_files, replay_folder};
+pub use folder::{
+    MAX_FILE_BYTES, RecordingFiles, Replayed, list_numbers, read_bytes, replay_files, replay_folder,
+};
+pub use head::read_file_head;
+pub use known::Known;
 pub use laws::replays_go_on;
 pub use lg_detector::NoMemory;
-pub use replayer::Replayer;
+pub use replayer::{Replayer, next_of};
 pub use verdict::Verdict;
-pub use window::Window;
+pub use window::{Window, moment_of_event};

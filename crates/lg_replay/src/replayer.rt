@@ -63,7 +63,7 @@ fn is_broken(fault: Option<FieldFault>) -> bool
 
 /// Reads the next entry, if one is left. The error is the fault at which the entries end. `bytes` are those that are
 /// left: so the proof knows that they are bytes.
-fn next_of(entries: &mut Entries<'_>, bytes: &[u8]) -> Result<Option<Recorded>, FieldFault>
+pub fn next_of(entries: &mut Entries<'_>, bytes: &[u8]) -> Result<Option<Recorded>, FieldFault>
     requires { bytes.now ≡ entries.old.rest.now }
     ensures { ReadsNext entries.old.rest.now entries.new.rest.now result }
 {

@@ -23,7 +23,7 @@ pub struct Window {
 }
 
 /// The moment of an event, in milliseconds.
-pub(crate) fn moment_of_event(event: &Event) -> Moment
+pub fn moment_of_event(event: &Event) -> Moment
     ensures { result ≡ moment_of_event event.now }
 {
     match event {

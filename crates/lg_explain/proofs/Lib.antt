@@ -1,0 +1,7 @@
+pub mod EpisodeLaws
+pub mod ExplainedLaws
+pub mod FolderLaws
+pub mod InsightLaws
+pub mod PositionLaws
+pub mod RestingLaws
+pub mod RoundLaws

@@ -1,0 +1,12 @@
+-- What is right: whoever wants to believe the contracts reads these.
+pub mod Accounts
+pub mod EpisodeExamples
+pub mod Episodes
+pub mod Explanations
+pub mod Folders
+pub mod PlaceExamples
+pub mod Places
+pub mod Resting
+pub mod Rounds
+pub mod Tellings
+pub mod Told
