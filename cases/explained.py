@@ -41,3 +41,36 @@ def rows_of_explanations(program):
     wrong = wrong_rows()
     wrong += [f"{it.what}: {told}" for it in ROWS if (told := misexplained_files(program, it.files, it.asked))]
     return next(iter(wrong), None)
+
+
+# ---- The recordings of the repository
+
+EXAMPLES = pathlib.Path(__file__).resolve().parent.parent / "examples" / "recordings"
+# Which document shows what is told of which recording.
+SHOWN = (("killed", "EXPLANATIONS.md"), ("slow", "PROTOCOL.md"))
+
+
+def fault_of_example(program, folder):
+    """What is wrong with a recording of the repository: with its replay, or with what is told of its members."""
+    ran = subprocess.run([program, "replay", str(folder)], capture_output=True, stdin=subprocess.DEVNULL,
+                         timeout=SECONDS, check=False)
+    if ran.returncode:
+        return f"{folder.name}: the replay ended with status {ran.returncode}"
+    asked = [form for name in b"abcde" for form in forms_of(bytes([name]))]
+    return next((f"{folder.name}: {told}" for it in asked if (told := misexplained(program, folder, it))), None)
+
+
+def fault_of_document(program, name, document):
+    """What is wrong with what a document shows of a recording."""
+    text, _ = explanation(program, EXAMPLES / name, Asked(b"c"))
+    command = f"$ lg explain c --record examples/recordings/{name}\n"
+    shown = (EXAMPLES.parent.parent / "docs" / document).read_text(encoding="utf-8")
+    return None if command + text.decode() in shown else f"docs/{document} shows something else of {name}"
+
+
+def the_recordings_of_the_repository(program):
+    """Those of `examples/recordings`: each replay is whole, and of each member the program tells what the slow judge
+    does, and what the documents show."""
+    faults = [fault_of_example(program, EXAMPLES / it) for it in ("killed", "slow", "lossy")]
+    faults += [fault_of_document(program, name, document) for name, document in SHOWN]
+    return next(filter(None, faults), None)

@@ -1,7 +1,7 @@
 //! What an entry has about a member: who told it, and how its record changed.
 //!
 //! Defined in: `specs/Meaning/About.antt`.
-//! Tested in: `specs/Meaning/Examples.antt`.
+//! Tested in: `lg_explain_tests/src/explaining.rt`.
 ghost use Rattle.std.specs.Prelude.{◌≡◌, find, option_copied};
 ghost use Rattle.std.specs.List.{list_any};
 ghost use Rattle.lg_detector.specs.Meaning.Groups.{is_of_group};

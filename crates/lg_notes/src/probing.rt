@@ -1,7 +1,7 @@
 //! What an entry tells of a probe of the member, and of the health score.
 //!
 //! Defined in: `specs/Meaning/Probing.antt`.
-//! Tested in: `specs/Meaning/Examples.antt`.
+//! Tested in: `lg_explain_tests/src/explaining.rt`.
 ghost use Rattle.std.specs.Prelude.{◌≡◌, ◌≤◌, ◌<◌, ◌+◌, ◌++◌, OnOk, length};
 ghost use Rattle.arrayvec.specs.ArrayVec.{array_vec_len};
 ghost use Rattle.lg_notes.specs.Meaning.Insights.{maybe_insights};

@@ -1,7 +1,7 @@
 //! What an entry tells of the member: its steps.
 //!
 //! Defined in: `specs/Meaning/Steps.antt`.
-//! Tested in: `specs/Meaning/Examples.antt`.
+//! Tested in: `lg_explain_tests/src/explaining.rt`.
 ghost use Rattle.std.specs.Prelude.{◌≡◌, IfOk};
 ghost use Rattle.lg_notes.specs.Meaning.Insights.{maybe_insights, table_known};
 ghost use Rattle.lg_notes.specs.Meaning.Steps.{steps_of};

@@ -1,7 +1,7 @@
 //! What an entry tells of what others said of the member, of its record, and of the suspicion of it.
 //!
 //! Defined in: `specs/Meaning/Suspecting.antt`.
-//! Tested in: `specs/Meaning/Examples.antt`.
+//! Tested in: `lg_explain_tests/src/explaining.rt`.
 ghost use Rattle.std.specs.Prelude.{◌≡◌, ◌++◌, OnOk};
 ghost use Rattle.lg_notes.specs.Meaning.Insights.{maybe_insights};
 ghost use Rattle.lg_notes.specs.Meaning.Suspecting.{changed_steps, is_same_standing, is_same_suspicion};

@@ -1,7 +1,7 @@
 //! Which timer an entry fired.
 //!
 //! Defined in: `specs/Meaning/Timers.antt`.
-//! Tested in: `specs/Meaning/Examples.antt`.
+//! Tested in: `lg_explain_tests/src/explaining.rt`.
 ghost use Rattle.std.specs.Prelude.{◌≡◌};
 ghost use Rattle.lg_notes.specs.Meaning.Timers.{ends_round, has_fired, asks_helpers, is_suspicion_of, starts_round};
 

@@ -1,7 +1,7 @@
 //! What is known of a member behind some entries, by the entries alone.
 //!
 //! Defined in: `specs/Meaning/Watching.antt`.
-//! Tested in: `specs/Meaning/WatchExamples.antt`.
+//! Tested in: `lg_explain_tests/src/explaining.rt`.
 ghost use Rattle.std.specs.Prelude.{◌≡◌};
 ghost use Rattle.lg_notes.specs.Meaning.Watching.{first_ping, is_calm, ping_in, ping_of_start, probe_behind};
 ghost use Rattle.lg_notes.specs.Meaning.Watching.{probe_past, probe_since, suspected_behind, watch_behind};
