@@ -1,3 +1,4 @@
 pub mod NameLaws
+pub mod PictureLaws
 pub mod TextLaws
 pub mod VerdictLaws

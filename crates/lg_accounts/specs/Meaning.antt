@@ -5,6 +5,8 @@ pub mod DateExamples
 pub mod Dates
 pub mod Json
 pub mod JsonExamples
+pub mod PageExamples
+pub mod Pages
 pub mod SentenceExamples
 pub mod Sentences
 pub mod Values

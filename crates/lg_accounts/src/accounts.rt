@@ -63,11 +63,11 @@ fn put_verdict(name: &str, verdict: &MemberVerdict, text: &mut String) -> Result
     put_date(verdict.wall_ms, text)?;
     text.push_str("), ")?;
     put_source(&verdict.teller, text)?;
-    text.push_str(".\n")
+    text.push_str(".")
 }
 
 /// Appends the heading of an account, by its last verdict.
-fn put_heading(
+pub(crate) fn put_heading(
     name: &str,
     verdict: &Option<MemberVerdict>,
     text: &mut String,
@@ -76,10 +76,7 @@ fn put_heading(
 {
     match verdict {
         Some(verdict) => put_verdict(name, verdict, text),
-        None => {
-            text.push_str(name)?;
-            text.push_str("\n")
-        }
+        None => text.push_str(name),
     }
 }
 
@@ -148,6 +145,7 @@ fn put_account(
         ≡ string_bytes text.old ++ account_text name.now shows_entries (account_value account.now)) }
 {
     put_heading(name, &account.verdict(), text)?;
+    text.push_str("\n")?;
     put_notes(shows_entries, &account.notes, text)?;
     text.push_str(missing_line(account.is_known))
 }

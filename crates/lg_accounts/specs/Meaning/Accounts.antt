@@ -32,11 +32,11 @@ fate_front name fate moment = name ++ (fate ++ (codes " at " ++ (decimal moment 
 unfoldable pub verdict_heading : List ℕ → MemberVerdict → List ℕ
 verdict_heading name verdict =
     fate_front name (fate_text verdict.record_after.status) verdict.moment ++ date_text verdict.wall_ms
-    ++ codes "), " ++ source_text verdict.teller ++ codes ".\n"
+    ++ codes "), " ++ source_text verdict.teller ++ codes "."
 
 -- The heading of an account, by its last verdict. An account that has none, which isn't told, has the name alone.
 abbrev pub heading_by : List ℕ → Option MemberVerdict → List ℕ
-heading_by name None = name ++ newline
+heading_by name None = name
 heading_by name (Some verdict) = verdict_heading name verdict
 
 -- the number of an entry in brackets, if it is shown
@@ -56,7 +56,7 @@ missing_line false = codes "  Some of the past is missing, so scores and timeout
 
 unfoldable pub account_text : List ℕ → Bool → AccountValue → List ℕ
 account_text name shows_entries account =
-    heading_by name (verdict_of account) ++ flat_map (note_line shows_entries) account.notes
+    heading_by name (verdict_of account) ++ newline ++ flat_map (note_line shows_entries) account.notes
     ++ missing_line account.is_known
 
 -- The text of a member's accounts, one behind another, with or without the numbers of entries; or that there are none.
