@@ -7,7 +7,7 @@ use Rattle.lg_explain.specs.Meaning.Episodes.{episodes, has_step, run_joined, no
 use Rattle.lg_explain.specs.Meaning.Told.{EntryTold}
 use Rattle.lg_explain.specs.Support.Episodes.{HasEpisode, HasGathered, earlier_runs, latest_run}
 use Rattle.lg_explain.specs.declared.question.MemberQuestion.{MemberQuestion}
-use Rattle.lg_explain.specs.declared.story.Story.{Story}
+use Rattle.lg_explain.specs.declared.gathered.Gathered.{Gathered}
 
 -- the notes of an episode with one entry more
 pub notes_more : (x : EntryTold) (episode : List EntryTold) → notes_of (x ∷ episode) ≡ notes_of episode ++ filter tells_it (x.note ∷ [])
@@ -23,7 +23,7 @@ ended_runs question [] = refl
 ended_runs question (episode ∷ runs) = refl
 
 -- an entry begins an episode, or goes on with the latest one
-pub begins_run : (s : Story) (question : MemberQuestion) (x : EntryTold) (before : List EntryTold) → x.begins ≡ true
+pub begins_run : (s : Gathered) (question : MemberQuestion) (x : EntryTold) (before : List EntryTold) → x.begins ≡ true
     → HasEpisode s question (x ∷ []) (latest_run (episodes before) ∷ earlier_runs (episodes before)) → HasGathered s question (x ∷ before)
 begins_run s question x before begins run =
     subst (λ (b : Bool). HasEpisode s question (latest_run (if b then (x ∷ []) ∷ episodes before else run_joined x (episodes before)))
@@ -38,7 +38,7 @@ joined_earlier : (x : EntryTold) (runs : List (List EntryTold)) → earlier_runs
 joined_earlier x [] = refl
 joined_earlier x (episode ∷ runs) = refl
 
-pub goes_on_run : (s : Story) (question : MemberQuestion) (x : EntryTold) (before : List EntryTold) → x.begins ≡ false
+pub goes_on_run : (s : Gathered) (question : MemberQuestion) (x : EntryTold) (before : List EntryTold) → x.begins ≡ false
     → HasEpisode s question (x ∷ latest_run (episodes before)) (earlier_runs (episodes before)) → HasGathered s question (x ∷ before)
 goes_on_run s question x before begins run =
     subst (λ (b : Bool). HasEpisode s question (latest_run (if b then (x ∷ []) ∷ episodes before else run_joined x (episodes before)))

@@ -96,7 +96,7 @@ took_headless e bytes fault is asked files taken =
 
 -- ---- all of them
 
-pub accounts_are : (e : Explainer) (accounts : List AccountValue) → ((told : List EntryTold) → HasGathered e.story e.question told → accounts ≡ accounts_told e.question (episodes told))
+pub accounts_are : (e : Explainer) (accounts : List AccountValue) → ((told : List EntryTold) → HasGathered e.gathered e.question told → accounts ≡ accounts_told e.question (episodes told))
     → (asked : MemberQuestion) (files : List (List ℕ)) → HasExplained e asked files → accounts ≡ accounts_of asked files
 unfolding accounts_of
 accounts_are e accounts gives asked files taken =

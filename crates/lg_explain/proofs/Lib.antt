@@ -3,5 +3,5 @@ pub mod ExplainedLaws
 pub mod FolderLaws
 pub mod InsightLaws
 pub mod PositionLaws
-pub mod RestingLaws
 pub mod RoundLaws
+pub mod SourceLaws

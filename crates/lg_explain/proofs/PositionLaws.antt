@@ -23,7 +23,7 @@ use Rattle.lg_explain.specs.Meaning.Tellings.{insights_at, note_of, told_behind}
 use Rattle.lg_accounts.specs.Meaning.Values.{NoteValue}
 use Rattle.lg_explain.specs.Meaning.Told.{EntryTold}
 use Rattle.lg_explain.specs.Support.Ends.{KeepsEnds}
-use Rattle.lg_explain.specs.Support.Positions.{IsAt, IsBegun, IsHere, KeepsRest, Passes, ends_next, greatest_next, watch_next}
+use Rattle.lg_explain.specs.Support.Positions.{IsAt, IsBegun, IsHere, KeepsRest, HasPassed, ends_next, greatest_next, watch_next}
 use Rattle.lg_explain.specs.declared.position.Position.{Position}
 use Rattle.lg_explain.specs.declared.rounds.RoundEnd.{RoundEnd}
 
@@ -140,7 +140,7 @@ known_is k (Some f) holds = holds.known
 pub passed : (old mid new : Position) (name : List ℕ) (head : HeadValue) (r : FilesRead) (x : Entry) (subject : NoteSubject)
     → subject ≡ note_subject name head → IsAt old r
     → ((past : Option (List Event)) → HoldsPast old.known past → HoldsPast mid.known (past_with past x.event))
-    → KeepsRest old mid → Passes mid new subject x → IsAt new (entry_read name head r x)
+    → KeepsRest old mid → HasPassed mid new subject x → IsAt new (entry_read name head r x)
 passed old mid new name head r x subject is at happened keeps passes =
     let moment = moment_of_event x.event in
     let before = greatest_next r.begun r.entries in

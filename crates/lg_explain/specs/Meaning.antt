@@ -6,7 +6,7 @@ pub mod Explanations
 pub mod Folders
 pub mod PlaceExamples
 pub mod Places
-pub mod Resting
 pub mod Rounds
+pub mod Sources
 pub mod Tellings
 pub mod Told

@@ -12,9 +12,9 @@ ghost use Rattle.lg_explain.specs.Meaning.Places.{FilesRead, entries_read, entry
 ghost use Rattle.lg_explain.specs.Support.Explained.{ReadsOn, HasExplained};
 ghost use Rattle.lg_explain.specs.declared.question.MemberQuestion.{MemberQuestion as Asked};
 
+use crate::gathered::Gathered;
 use crate::position::Position;
 use crate::question::MemberQuestion;
-use crate::story::Story;
 use lg_accounts::Account;
 use lg_detector::NoMemory;
 use lg_fields::FieldReader;
@@ -31,7 +31,7 @@ pub struct Explainer {
     /// What is kept where the next entry stands.
     pub(crate) position: Position,
     /// The accounts so far.
-    pub(crate) story: Story,
+    pub(crate) gathered: Gathered,
 }
 
 impl Explainer {
@@ -40,11 +40,11 @@ impl Explainer {
         ensures { IfOk result (λ explainer. HasExplained explainer question []) }
     {
         let position = Position::new(alloc)?;
-        let story = Story::new(alloc, &question);
+        let gathered = Gathered::new(alloc);
         Ok(Explainer {
             question,
             position,
-            story,
+            gathered,
         })
     }
 
@@ -61,7 +61,7 @@ impl Explainer {
         let told = self
             .position
             .follow(alloc, &self.question.name, head, recorded)?;
-        self.story.add(alloc, &self.question, told)
+        self.gathered.add(alloc, &self.question, told)
     }
 
     /// Goes through the entries of a file, up to the first fault.
@@ -126,9 +126,9 @@ impl Explainer {
     {
         let Explainer {
             question,
-            story,
+            gathered,
             ..
         } = self;
-        story.finish(alloc, &question)
+        gathered.finish(alloc, &question)
     }
 }

@@ -7,22 +7,23 @@
 //! - which entries there are, and where each stands: `specs/Meaning/Places.antt`;
 //! - what is told of an entry behind those before it: `specs/Meaning/Tellings.antt`;
 //! - which runs of entries accounts are made of: `specs/Meaning/Episodes.antt`;
-//! - which accounts are told: `specs/Meaning/Accounts.antt`;
+//! - which accounts are told: `specs/Meaning/Accounts.antt` and `Explanations.antt`;
+//! - which entries their notes are of: `specs/Meaning/Sources.antt`;
 //! - what is read of a folder: `specs/Meaning/Folders.antt`.
 #![tactic(auto)]
 
 mod explainer;
 mod folder;
+mod gathered;
 mod insights;
 mod laws;
 mod position;
 mod question;
 mod rounds;
-mod story;
 mod subject;
 
 pub use explainer::Explainer;
 pub use folder::{explain_files, explain_folder};
-pub use laws::accounts_rest_on_entries;
+pub use laws::notes_are_of_entries;
 pub use lg_detector::NoMemory;
 pub use question::MemberQuestion;

@@ -8,11 +8,11 @@ ghost use Rattle.lg_notes.specs.Meaning.Watching.{is_calm};
 ghost use Rattle.lg_recording.specs.Meaning.Next.{entry_in};
 ghost use Rattle.lg_explain.specs.Meaning.Places.{FilesRead, begun_from, head_read, nothing_read};
 ghost use Rattle.lg_explain.specs.Support.Positions.{HasFollowed, IsAt, IsBegun, IsHere, KeepsKnown};
-ghost use Rattle.lg_explain.specs.Support.Positions.{KeepsRest, Notes, Passes};
+ghost use Rattle.lg_explain.specs.Support.Positions.{KeepsRest, HasNoted, HasPassed};
 
+use crate::gathered::Told;
 use crate::insights::{insights_at, with_table};
 use crate::rounds::{RoundEnd, add_end, recent_rounds};
-use crate::story::Told;
 use crate::subject::{CALM, note_subject, wall_of, watch_of_head};
 use arrayvec::ArrayVec;
 use lg_accounts::Note;
@@ -118,7 +118,7 @@ impl Position {
         head: &Head<'_>,
         recorded: &Recorded,
     ) -> Result<Note, NoMemory>
-        ensures noted { IfOk result (Notes self.old self.new subject.now (head_value head.entry.now)
+        ensures noted { IfOk result (HasNoted self.old self.new subject.now (head_value head.entry.now)
             (entry_in recorded.now)) }
         ensures same { KeepsRest self.old self.new }
     {
@@ -154,7 +154,7 @@ impl Position {
 
     /// Goes on behind an entry whose event happened to the detector.
     fn pass(&mut self, subject: &NoteSubject, recorded: &Recorded) -> Result<(), NoMemory>
-        ensures { OnOk result (Passes self.old self.new subject.now (entry_in recorded.now)) }
+        ensures { OnOk result (HasPassed self.old self.new subject.now (entry_in recorded.now)) }
     {
         self.greatest = self.greatest.later(moment_of_event(&recorded.event));
         self.watch = self

@@ -112,14 +112,14 @@ fn question(milliseconds: u64, all: bool) -> MemberQuestion {
 }
 
 /// The accounts by these files.
-fn explained<const N: usize>(
+fn explained(
     alloc: Global,
-    files: [Vec<u8>; N],
+    files: &[Vec<u8>],
     question: MemberQuestion,
 ) -> Result<Vec<Account>, Fail> {
     let mut explainer = Explainer::new(alloc, question)?;
     for bytes in files {
-        explainer.take_file(alloc, &bytes)?;
+        explainer.take_file(alloc, bytes)?;
     }
     Ok(explainer.finish(alloc)?)
 }
@@ -162,7 +162,7 @@ fn is_rest(account: &Account) -> bool {
 fn tells_why_a_member_was_suspected(rt: HostRuntime) -> Result<(), Fail> {
     let alloc = rt.alloc();
     let files = [file(alloc, 0, EVENTS)?];
-    let accounts = explained(alloc, files, question(MAX_MOMENT, false))?;
+    let accounts = explained(alloc, &files, question(MAX_MOMENT, false))?;
     assert!(rt; accounts.len() == 1 && accounts.iter().all(|account| is_whole(account)));
     Ok(())
 }
@@ -171,7 +171,7 @@ fn tells_why_a_member_was_suspected(rt: HostRuntime) -> Result<(), Fail> {
 fn goes_on_with_a_second_file(rt: HostRuntime) -> Result<(), Fail> {
     let alloc = rt.alloc();
     let files = [file(alloc, 0, 2)?, file(alloc, 2, EVENTS)?];
-    let accounts = explained(alloc, files, question(MAX_MOMENT, false))?;
+    let accounts = explained(alloc, &files, question(MAX_MOMENT, false))?;
     assert!(rt; accounts.len() == 1 && accounts.iter().all(|account| is_whole(account)));
     Ok(())
 }
@@ -180,7 +180,7 @@ fn goes_on_with_a_second_file(rt: HostRuntime) -> Result<(), Fail> {
 fn tells_less_where_the_first_file_is_missing(rt: HostRuntime) -> Result<(), Fail> {
     let alloc = rt.alloc();
     let files = [file(alloc, 2, EVENTS)?];
-    let accounts = explained(alloc, files, question(MAX_MOMENT, false))?;
+    let accounts = explained(alloc, &files, question(MAX_MOMENT, false))?;
     assert!(rt; accounts.len() == 1 && accounts.iter().all(|account| is_rest(account)));
     Ok(())
 }
@@ -188,8 +188,9 @@ fn tells_less_where_the_first_file_is_missing(rt: HostRuntime) -> Result<(), Fai
 #[test]
 fn tells_nothing_of_a_later_verdict(rt: HostRuntime) -> Result<(), Fail> {
     let alloc = rt.alloc();
-    let late = explained(alloc, [file(alloc, 0, EVENTS)?], question(999, true))?;
-    let timely = explained(alloc, [file(alloc, 0, EVENTS)?], question(1000, true))?;
+    let files = [file(alloc, 0, EVENTS)?];
+    let late = explained(alloc, &files, question(999, true))?;
+    let timely = explained(alloc, &files, question(1000, true))?;
     assert!(rt; late.is_empty() && timely.len() == 1);
     Ok(())
 }
@@ -198,10 +199,10 @@ fn tells_nothing_of_a_later_verdict(rt: HostRuntime) -> Result<(), Fail> {
 fn tells_of_each_life_or_of_the_last_one(rt: HostRuntime) -> Result<(), Fail> {
     let alloc = rt.alloc();
     let twice = [file(alloc, 0, EVENTS)?, file(alloc, 0, EVENTS)?];
-    let all = explained(alloc, twice, question(MAX_MOMENT, true))?;
+    let all = explained(alloc, &twice, question(MAX_MOMENT, true))?;
     assert!(rt; all.len() == 2 && all.iter().all(|account| is_whole(account)));
     let again = [file(alloc, 0, EVENTS)?, file(alloc, 2, EVENTS)?];
-    let last = explained(alloc, again, question(MAX_MOMENT, false))?;
+    let last = explained(alloc, &again, question(MAX_MOMENT, false))?;
     assert!(rt; last.len() == 1 && last.iter().all(|account| is_rest(account)));
     Ok(())
 }
@@ -211,7 +212,7 @@ fn passes_over_a_file_without_a_head(rt: HostRuntime) -> Result<(), Fail> {
     let alloc = rt.alloc();
     let torn = Vec::from_slice(alloc, b"LGR")?;
     let files = [file(alloc, 0, 2)?, torn, file(alloc, 2, EVENTS)?];
-    let accounts = explained(alloc, files, question(MAX_MOMENT, false))?;
+    let accounts = explained(alloc, &files, question(MAX_MOMENT, false))?;
     assert!(rt; accounts.len() == 1 && accounts.iter().all(|account| is_whole(account)));
     Ok(())
 }

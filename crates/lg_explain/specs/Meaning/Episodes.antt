@@ -27,12 +27,12 @@ earliest_verdict [] = None
 earliest_verdict (x ∷ past) = verdict_or x.is_verdict x.note.moment (earliest_verdict past)
 
 -- Whether an episode is told, of those whose first verdict came at a moment or before.
-abbrev pub is_by : ℕ → Option ℕ → Bool
-is_by at None = false
-is_by at (Some moment) = nat_le moment at
+abbrev pub came_by : ℕ → Option ℕ → Bool
+came_by at None = false
+came_by at (Some moment) = nat_le moment at
 
 abbrev pub is_told_by : ℕ → List EntryTold → Bool
-is_told_by at episode = is_by at (earliest_verdict episode)
+is_told_by at episode = came_by at (earliest_verdict episode)
 
 -- whether an entry tells anything
 abbrev pub has_step : List NoteStep → Bool

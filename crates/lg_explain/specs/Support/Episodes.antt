@@ -5,8 +5,8 @@ use Rattle.lg_explain.specs.Meaning.Accounts.{accounts_told}
 use Rattle.lg_explain.specs.Meaning.Episodes.{episodes, earliest_verdict, is_known_at, notes_of}
 use Rattle.lg_explain.specs.Meaning.Told.{EntryTold}
 use Rattle.lg_explain.specs.declared.question.MemberQuestion.{MemberQuestion}
-use Rattle.lg_explain.specs.declared.story.Story.{Story}
-use Rattle.lg_explain.specs.declared.story.Told.{Told}
+use Rattle.lg_explain.specs.declared.gathered.Gathered.{Gathered}
+use Rattle.lg_explain.specs.declared.gathered.Told.{Told}
 
 -- what the program's type holds
 abbrev pub told_value : Told → EntryTold
@@ -18,7 +18,7 @@ told_value told = record {
 }
 
 -- The running episode is this one, and the accounts are those of these others.
-pub record HasEpisode (s : Story) (question : MemberQuestion) (episode : List EntryTold) (runs : List (List EntryTold))
+pub record HasEpisode (s : Gathered) (question : MemberQuestion) (episode : List EntryTold) (runs : List (List EntryTold))
     : Type 0 where
   pub notes : map note_value s.notes.items ≡ notes_of episode
   pub first : s.first ≡ earliest_verdict episode
@@ -34,5 +34,5 @@ abbrev pub earlier_runs : List (List EntryTold) → List (List EntryTold)
 earlier_runs [] = []
 earlier_runs (episode ∷ runs) = runs
 
-abbrev pub HasGathered : Story → MemberQuestion → List EntryTold → Type 0
+abbrev pub HasGathered : Gathered → MemberQuestion → List EntryTold → Type 0
 HasGathered s question told = HasEpisode s question (latest_run (episodes told)) (earlier_runs (episodes told))

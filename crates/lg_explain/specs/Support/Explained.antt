@@ -10,7 +10,7 @@ use Rattle.lg_explain.specs.declared.question.MemberQuestion.{MemberQuestion}
 -- It has come so far.
 pub record HasReached (e : Explainer) (r : FilesRead) : Type 0 where
   pub at : IsAt e.position r
-  pub told : HasGathered e.story e.question (all_told r.entries)
+  pub told : HasGathered e.gathered e.question (all_told r.entries)
 
 -- It has the same question, and whatever it had read, it read these entries of a file behind that.
 pub record ReadsOn (old new : Explainer) (more : FilesRead → FilesRead) : Type 0 where

@@ -18,7 +18,7 @@ use Rattle.lg_explain.specs.Support.Ends.{KeepsEnds}
 use Rattle.lg_explain.specs.Support.Episodes.{told_value}
 use Rattle.lg_explain.specs.declared.position.Position.{Position}
 use Rattle.lg_explain.specs.declared.rounds.RoundEnd.{RoundEnd}
-use Rattle.lg_explain.specs.declared.story.Told.{Told}
+use Rattle.lg_explain.specs.declared.gathered.Told.{Told}
 
 -- What is before the next entry: the watch of the member, the greatest moment, and the ends of rounds.
 abbrev pub watch_next : Option Watch → List PlacedEntry → Watch
@@ -61,14 +61,14 @@ pub record KeepsRest (old new : Position) : Type 0 where
   pub ends : new.ends.items ≡ old.ends.items
 
 -- An entry was noted, and its event happened to the detector.
-pub record Notes (old new : Position) (subject : NoteSubject) (head : HeadValue) (x : Entry) (note : Note)
+pub record HasNoted (old new : Position) (subject : NoteSubject) (head : HeadValue) (x : Entry) (note : Note)
     : Type 0 where
   pub past : (past : Option (List Event)) → HoldsPast old.known past → HoldsPast new.known (past_with past x.event)
   pub told : (name : List ℕ) (r : FilesRead) → subject ≡ note_subject name head → IsAt old r
       → note_value note ≡ note_of (placed name head r x) r.entries
 
 -- An entry was passed, whose event had happened to the detector.
-pub record Passes (old new : Position) (subject : NoteSubject) (x : Entry) : Type 0 where
+pub record HasPassed (old new : Position) (subject : NoteSubject) (x : Entry) : Type 0 where
   pub known : new.known ≡ old.known
   pub number : new.number ≡ old.number + 1
   pub begins : new.begins ≡ false

@@ -1,8 +1,8 @@
 use Rattle.std.proofs.lemmas.Result.{on_ok_weaker}
 use Rattle.lg_explain.specs.Support.Episodes.{told_value}
 use Rattle.lg_explain.proofs.EpisodeLaws.{begins_run, goes_on_run}
-use Rattle.lg_explain.proofs.story.Story.add.Goals as goal
-use Rattle.lg_explain.proofs.story.Story.add.Goals.{then-told+in_ok-end_episode, else-told}
+use Rattle.lg_explain.proofs.gathered.Gathered.add.Goals as goal
+use Rattle.lg_explain.proofs.gathered.Gathered.add.Goals.{then-told+in_ok-end_episode, else-told}
 
 pub returns : goal.returns
 returns c =
@@ -11,9 +11,9 @@ returns c =
     elim c.if-told.branch [
       | then-told+in_ok-end_episode w ↦
           begins_run c.go_on.new.self c.args.question.now (told_value c.args.told) before w.if-told.true
-          (went _ _ (rw w.self-is (w.in_ok-end_episode.ensures _ _ has)))
+          (went c.args.question.now _ _ (rw w.self-is (w.in_ok-end_episode.ensures _ _ has)))
       | else-told w ↦
           goes_on_run c.go_on.new.self c.args.question.now (told_value c.args.told) before w.if-told.false
-          (went _ _ (rw w.self-is has))
+          (went c.args.question.now _ _ (rw w.self-is has))
     ])
     c.go_on.ensures

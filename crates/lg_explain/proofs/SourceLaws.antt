@@ -1,4 +1,4 @@
--- Accounts rest on entries.
+-- The notes of accounts are those of entries.
 use Rattle.std.proofs.Common.{ℕ, Bool, true, false, List, [], ◌∷◌, ◌++◌, refl, sym, subst, append_assoc}
 use Rattle.std.specs.Prelude.{filter, map, reverse, if◌then◌else◌, cond}
 use Rattle.std.specs.List.{AllByRecursion}
@@ -8,7 +8,7 @@ use Rattle.lg_explain.specs.Meaning.Accounts.{account_of, first_only}
 use Rattle.lg_explain.specs.Meaning.Episodes.{episodes, is_told_by, run_joined, note_in, notes_of, tells_it}
 use Rattle.lg_explain.specs.Meaning.Explanations.{accounts_of}
 use Rattle.lg_explain.specs.Meaning.Places.{PlacedEntry, recording_read}
-use Rattle.lg_explain.specs.Meaning.Resting.{IsGrounded, RestsOn}
+use Rattle.lg_explain.specs.Meaning.Sources.{HasNotesOf, IsNoteOf}
 use Rattle.lg_explain.specs.Meaning.Tellings.{all_told}
 use Rattle.lg_explain.specs.Meaning.Told.{EntryTold}
 use Rattle.lg_explain.specs.declared.question.MemberQuestion.{MemberQuestion}
@@ -38,14 +38,14 @@ all_reverse P (x ∷ xs) all =
 
 -- ---- entries and episodes
 
-abbrev Grounded : List PlacedEntry → EntryTold → Type 0
-Grounded entries told = RestsOn entries told.note
+abbrev ToldOf : List PlacedEntry → EntryTold → Type 0
+ToldOf entries told = IsNoteOf entries told.note
 
-told_rest : (later past : List PlacedEntry) → AllByRecursion (Grounded (later ++ past)) (all_told past)
+told_rest : (later past : List PlacedEntry) → AllByRecursion (ToldOf (later ++ past)) (all_told past)
 told_rest later [] = tt
 told_rest later (x ∷ past) = (
   record { later = later; entry = x; past = past; are = refl; is = refl },
-  subst (λ (entries : List PlacedEntry). AllByRecursion (Grounded entries) (all_told past)) (append_assoc later (x ∷ []) past) (told_rest (later ++ x ∷ []) past),
+  subst (λ (entries : List PlacedEntry). AllByRecursion (ToldOf entries) (all_told past)) (append_assoc later (x ∷ []) past) (told_rest (later ++ x ∷ []) past),
 )
 
 runs_joined : (P : EntryTold → Type 0) (x : EntryTold) (runs : List (List EntryTold)) → P x → AllByRecursion (AllByRecursion P) runs
@@ -64,13 +64,13 @@ runs_all P (x ∷ past) all = by_begins x.begins (runs_all P past all.1)
 
 -- ---- accounts
 
-notes_rest : (entries : List PlacedEntry) (episode : List EntryTold) → AllByRecursion (Grounded entries) episode → AllByRecursion (RestsOn entries) (notes_of episode)
+notes_rest : (entries : List PlacedEntry) (episode : List EntryTold) → AllByRecursion (ToldOf entries) episode → AllByRecursion (IsNoteOf entries) (notes_of episode)
 notes_rest entries episode all =
-    all_reverse (RestsOn entries) (filter tells_it (map note_in episode))
-    (all_filter (RestsOn entries) tells_it (map note_in episode) (all_map (RestsOn entries) note_in episode all))
+    all_reverse (IsNoteOf entries) (filter tells_it (map note_in episode))
+    (all_filter (IsNoteOf entries) tells_it (map note_in episode) (all_map (IsNoteOf entries) note_in episode all))
 
-accounts_rest : (entries : List PlacedEntry) (runs : List (List EntryTold)) → AllByRecursion (AllByRecursion (Grounded entries)) runs
-    → AllByRecursion (λ run. IsGrounded entries (account_of run)) runs
+accounts_rest : (entries : List PlacedEntry) (runs : List (List EntryTold)) → AllByRecursion (AllByRecursion (ToldOf entries)) runs
+    → AllByRecursion (λ run. HasNotesOf entries (account_of run)) runs
 accounts_rest entries [] all = tt
 accounts_rest entries (run ∷ runs) all = (notes_rest entries run all.0, accounts_rest entries runs all.1)
 
@@ -82,13 +82,13 @@ chosen_rest : (P : AccountValue → Type 0) (b : Bool) (told : List AccountValue
 chosen_rest P true told all = all_reverse P told all
 chosen_rest P false told all = first_rests P told all
 
-pub all_rest : (question : MemberQuestion) (files : List (List ℕ)) → AllByRecursion (IsGrounded (recording_read question.name files).entries) (accounts_of question files)
+pub all_rest : (question : MemberQuestion) (files : List (List ℕ)) → AllByRecursion (HasNotesOf (recording_read question.name files).entries) (accounts_of question files)
 unfolding accounts_of
 all_rest question files =
     let entries = (recording_read question.name files).entries in
     let runs = episodes (all_told entries) in
     let told = filter (is_told_by question.at) runs in
-    chosen_rest (IsGrounded entries) question.all (map account_of told)
-    (all_map (IsGrounded entries) account_of told
-    (all_filter (λ (run : List EntryTold). IsGrounded entries (account_of run)) (is_told_by question.at) runs
-    (accounts_rest entries runs (runs_all (Grounded entries) (all_told entries) (told_rest [] entries)))))
+    chosen_rest (HasNotesOf entries) question.all (map account_of told)
+    (all_map (HasNotesOf entries) account_of told
+    (all_filter (λ (run : List EntryTold). HasNotesOf entries (account_of run)) (is_told_by question.at) runs
+    (accounts_rest entries runs (runs_all (ToldOf entries) (all_told entries) (told_rest [] entries)))))

@@ -5,8 +5,9 @@
 ghost use Rattle.std.specs.Prelude.{◌≡◌, ◌∷◌, ◌++◌, [], IfOk, List, OnOk, filter, map, true};
 ghost use Rattle.lg_accounts.specs.Meaning.Values.{account_value, note_value};
 ghost use Rattle.lg_explain.specs.Meaning.Accounts.{account_of, accounts_told};
-ghost use Rattle.lg_explain.specs.Meaning.Episodes.{episodes, is_by, is_told_by, tells_it, verdict_or};
+ghost use Rattle.lg_explain.specs.Meaning.Episodes.{episodes, came_by, is_told_by, tells_it, verdict_or};
 ghost use Rattle.lg_explain.specs.Meaning.Told.{EntryTold};
+ghost use Rattle.lg_explain.specs.declared.question.MemberQuestion.{MemberQuestion as Asked};
 ghost use Rattle.lg_explain.specs.Support.Episodes.{HasEpisode, HasGathered, told_value};
 
 use crate::question::MemberQuestion;
@@ -31,7 +32,7 @@ pub(crate) struct Told {
 
 /// The accounts so far, and the episode that runs.
 #[derive(Drop)]
-pub(crate) struct Story {
+pub(crate) struct Gathered {
     /// The notes of the episode that runs: those that tell something.
     pub(crate) notes: Vec<Note>,
     /// The moment of its first verdict, if there is one.
@@ -43,8 +44,8 @@ pub(crate) struct Story {
 }
 
 /// Whether the first verdict of an episode came at a moment or before.
-fn is_by(at: Moment, first: Option<Moment>) -> bool
-    ensures { result ≡ is_by at first }
+fn came_by(at: Moment, first: Option<Moment>) -> bool
+    ensures { result ≡ came_by at first }
 {
     match first {
         None => false,
@@ -93,13 +94,12 @@ fn put_account(
     Ok(())
 }
 
-impl Story {
+impl Gathered {
     /// Nothing was told.
-    pub(crate) fn new(alloc: Global, question: &MemberQuestion) -> Story
-        ensures { HasGathered result question.now [] }
+    pub(crate) fn new(alloc: Global) -> Gathered
+        ensures { (question : Asked) → HasGathered result question [] }
     {
-        let _ = question;
-        Story {
+        Gathered {
             notes: Vec::new(alloc),
             first: None,
             is_known: false,
@@ -113,7 +113,7 @@ impl Story {
             → HasEpisode self.old question.now episode runs → HasEpisode self.new question.now [] (episode ∷ runs)) }
     {
         let notes = mem::replace(&mut self.notes, Vec::new(alloc));
-        if is_by(question.at, self.first) {
+        if came_by(question.at, self.first) {
             let account = Account {
                 notes,
                 is_known: self.is_known,
@@ -126,12 +126,11 @@ impl Story {
     }
 
     /// Adds an entry to the episode that runs.
-    fn go_on(&mut self, question: &MemberQuestion, told: Told) -> Result<(), NoMemory>
-        ensures { OnOk result ((episode : List EntryTold) (runs : List (List EntryTold))
-            → HasEpisode self.old question.now episode runs
-            → HasEpisode self.new question.now (told_value told ∷ episode) runs) }
+    fn go_on(&mut self, told: Told) -> Result<(), NoMemory>
+        ensures { OnOk result ((question : Asked) (episode : List EntryTold) (runs : List (List EntryTold))
+            → HasEpisode self.old question episode runs
+            → HasEpisode self.new question (told_value told ∷ episode) runs) }
     {
-        let _ = question;
         let Told {
             is_verdict,
             is_known,
@@ -156,7 +155,7 @@ impl Story {
         if told.begins {
             self.end_episode(alloc, question)?;
         }
-        self.go_on(question, told)
+        self.go_on(told)
     }
 
     /// Ends the episode that runs, and gives the accounts that are asked for.
