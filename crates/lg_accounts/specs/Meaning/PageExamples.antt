@@ -2,7 +2,7 @@
 use Rattle.std.specs.Prelude.{⊤, ◌≡◌, ℕ, true, false, List, [], ◌∷◌, ◌++◌, Option, Some, None, codes}
 use Rattle.std.specs.Prelude.{refl}
 use Rattle.std.specs.Fmt.{digits}
-use Rattle.lg_rules.specs.declared.claim.Status.TheVariants.{Alive, Suspect, Failed, Left}
+use Rattle.lg_rules.specs.declared.claim.Status.TheVariants.{Alive, Suspect, Failed}
 use Rattle.lg_accounts.specs.declared.picture.ShownTime.{ShownTime}
 use Rattle.lg_accounts.specs.declared.step.NoteStep.{NoteStep}
 use Rattle.lg_accounts.specs.declared.step.NoteStep.TheVariants.{Pinged, Nacked, Acked, RoundEnded, Scored}
