@@ -1,10 +1,12 @@
-//! Tests of accounts of a member: by the files of a recording, and their text, their JSON and their verdicts.
+//! Tests of accounts of a member: by the files of a recording, and their text, their JSON, their page and verdicts.
 #![tactic(auto)]
 
 #[cfg(test)]
 mod explaining;
 #[cfg(test)]
 mod making;
+#[cfg(test)]
+mod pages;
 #[cfg(test)]
 mod texts;
 #[cfg(test)]
