@@ -30,7 +30,8 @@ _lg() {
     *)
       case $COMP_CWORD:$word:${COMP_WORDS[1]} in
         1:-*) words='--help --version' ;;
-        1:*) words='answer order timeouts sim node check init members status watch leave replay version help' ;;
+        1:*) words='answer order timeouts sim node check init members status watch leave replay explain version
+          help' ;;
         *:answer) words='--name --help' ;;
         *:order) words='--names --words --help' ;;
         *:timeouts) words='--members --confirmations --alpha --beta --interval-ms --help' ;;
@@ -50,8 +51,10 @@ _lg() {
         *:watch) words='--at --json --help' ;;
         *:leave) words='--at --name --help' ;;
         *:replay) words='--from --to --only --help' ;;
+        *:explain) words='--record --at --all --entries --json --html --help' ;;
         *:version) words='--help' ;;
-        *:help) words='answer order timeouts sim node check init members status watch leave replay version help' ;;
+        *:help) words='answer order timeouts sim node check init members status watch leave replay explain version
+          help' ;;
       esac
       ;;
   esac
