@@ -1,11 +1,12 @@
 """What the program tells of members by their recordings, beside the slow judge of explanations."""
 
+import json
 import pathlib
 import subprocess
 
-from fuzzing.explain import Asked, explained
+from fuzzing.explain import Asked, explained, has_verdict
 from fuzzing.explanation_rows import ROWS, wrong_rows
-from fuzzing.recording import files_of
+from fuzzing.recording import files_of, read_file
 from recorded import SECONDS, first_difference, folder_of
 
 
@@ -23,6 +24,25 @@ def misexplained(program, folder, asked):
         return None
     told = f"status {got[1]}, wanted {wanted[1]}"
     return f"{' '.join(asked.words())}: {told if got[1] != wanted[1] else first_difference(got[0], wanted[0])}"
+
+
+def verdicts_in(folder, name):
+    """The entries of a folder that changed a member's record to suspect, failed or left, in order: their numbers."""
+    read = [read_file(data) for _, data in files_of(pathlib.Path(folder))]
+    entries = [it for file in read if file.head for it in enumerate(file.entries, file.head.count)]
+    return [number for number, entry in entries if has_verdict(name, entry)]
+
+
+def unexplained(program, folder, name):
+    """What the program leaves out of a member: each entry that changed its record to suspect, failed or left has to be
+    told, and what that came from besides the change: what was told, or that a round or the time was over."""
+    output, _ = explanation(program, folder, Asked(name, is_all=True, is_json=True))
+    notes = [note for account in json.loads(output)["accounts"] for note in account["notes"]]
+    steps = [(note["entry"], {step["step"] for step in note["steps"]}) for note in notes]
+    told = [entry for entry, kinds in steps if "changed" in kinds and kinds & {"told", "ended", "time_over"}]
+    wanted = verdicts_in(folder, name)
+    lacks = [it for it in wanted if it not in told]
+    return f"{name.decode()}: entries {lacks} of {wanted} aren't explained" if lacks else None
 
 
 def forms_of(name):
@@ -56,8 +76,10 @@ def fault_of_example(program, folder):
                          timeout=SECONDS, check=False)
     if ran.returncode:
         return f"{folder.name}: the replay ended with status {ran.returncode}"
-    asked = [form for name in b"abcde" for form in forms_of(bytes([name]))]
-    return next((f"{folder.name}: {told}" for it in asked if (told := misexplained(program, folder, it))), None)
+    names = [bytes([it]) for it in b"abcde"]
+    faults = [misexplained(program, folder, form) for name in names for form in forms_of(name)]
+    faults += [unexplained(program, folder, it) for it in names]
+    return next((f"{folder.name}: {it}" for it in faults if it), None)
 
 
 def fault_of_document(program, name, document):

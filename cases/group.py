@@ -1,5 +1,7 @@
 """Groups of nodes that run."""
 
+import pathlib
+
 from packets import HOST
 from running import LIFE_MS, Node, file_of, free_ports, free_status_ports, statuses, wait_for
 
@@ -60,6 +62,19 @@ class Group:
     def __exit__(self, *_):
         for node in self.nodes.values():
             node.kill()
+
+
+class RecordedGroup(Group):
+    """A group of which each node records, in the folder of its name in a room."""
+
+    def __init__(self, program, own, outer, keys, room):
+        self.room = pathlib.Path(room)
+        for name in own:
+            (self.room / name).mkdir()
+        super().__init__(program, own, outer, keys)
+
+    def keys_of(self, name):
+        return f'{self.keys}record = "{self.room / name}"\n'
 
 
 class AskedGroup(Group):
