@@ -223,6 +223,12 @@ def is_within_minute(now, before):
     return now - before < MINUTE
 
 
+def standing_of(suspicion):
+    """How a suspicion stands: when it was raised, its timeouts, and how many confirmations came."""
+    return suspicion and (suspicion.raised, suspicion.least, suspicion.most, suspicion.counted,
+                          suspicion.confirmations())
+
+
 def live_of(table):
     """How many records of a table are neither failed nor left."""
     return sum(record.status not in GONE for record in table)
@@ -261,8 +267,8 @@ class Note:
         return (it.before.score, it.after.score) if it.are_known() else (0, 0)
 
     def has_other_suspicion(self):
-        """Whether the suspicion of the member is another than before, or is there no longer."""
-        return self.it.are_known() and self.it.before.suspicion != self.it.after.suspicion
+        """Whether the suspicion of the member stands otherwise than before, or is there no longer."""
+        return self.it.are_known() and standing_of(self.it.before.suspicion) != standing_of(self.it.after.suspicion)
 
     def pinged(self):
         found = ping_of(self.name, self.it)
