@@ -147,8 +147,8 @@ page_sections name [] = none_paragraph name
 page_sections name (account ∷ others) = account_section name account ++ flat_map (account_section name) others
 
 -- How a browser shows the page: in light, in the dark, and in print. Marks differ in more than their colour: `probe` is
--- a thin ring and `alive` a thick one, `ack` a full disk and `gone` one with a rim, `suspect` a pale disk and `late` one
--- with a broken rim.
+-- a thin ring and `alive` a thick one, `ack` a full disk and `gone` one with a rim, `suspect` a pale disk, and `late`
+-- one with a broken rim.
 unfoldable pub page_style : List ℕ
 page_style =
     codes ":root { color-scheme: light dark; --good: #1b7837; --bad: #b35806; --gone: #c51b2f; --probe: "

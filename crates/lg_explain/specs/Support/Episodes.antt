@@ -18,7 +18,8 @@ told_value told = record {
 }
 
 -- The running episode is this one, and the accounts are those of these others.
-pub record HasEpisode (s : Gathered) (question : MemberQuestion) (episode : List EntryTold) (runs : List (List EntryTold))
+pub record HasEpisode
+    (s : Gathered) (question : MemberQuestion) (episode : List EntryTold) (runs : List (List EntryTold))
     : Type 0 where
   pub notes : map note_value s.notes.items ≡ notes_of episode
   pub first : s.first ≡ earliest_verdict episode
