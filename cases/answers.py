@@ -28,6 +28,7 @@ REFUSED = [
     ("GET", "/v1/members/nobody", 404), ("GET", "/v1/members/", 400), ("GET", "/v1/members/a%20b", 400),
     ("GET", "/v1/members/" + 33 * "n", 400), ("GET", "/v1/members/a/b", 400), ("GET", "/v1/members?status=dead", 400),
     ("GET", "/v1/members/a?status=alive", 400), ("GET", "/v1/health?now", 400), ("GET", "/metrics?a=1", 400),
+    ("GET", "/v1/explain/a", 404), ("GET", "/v1/explain/", 400), ("GET", "/v1/explain/a?all", 400),
     ("GET", "/v1/changes?after=x", 400), ("GET", "/v1/changes?wait_ms=30001", 400), ("GET", "/v1/member", 404),
     ("GET", "/v1/config/", 404), ("GET", "/favicon.ico", 404), ("GET", "/v1/members/" + 9000 * "n", 414),
     ("POST", "/v1/members", 405), ("PUT", "/v1/config", 405), ("DELETE", "/v1/members/a", 405), ("OPTIONS", "/", 405),

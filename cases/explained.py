@@ -4,9 +4,10 @@ import json
 import pathlib
 import subprocess
 
-from fuzzing.explain import Asked, explained, has_verdict
+from fuzzing.explain import Asked, explained
+from fuzzing.explain_laws import broken_laws, verdicts_of
 from fuzzing.explanation_rows import ROWS, wrong_rows
-from fuzzing.recording import files_of, read_file
+from fuzzing.recording import files_of
 from recorded import SECONDS, first_difference, folder_of
 
 
@@ -27,22 +28,25 @@ def misexplained(program, folder, asked):
 
 
 def verdicts_in(folder, name):
-    """The entries of a folder that changed a member's record to suspect, failed or left, in order: their numbers."""
-    read = [read_file(data) for _, data in files_of(pathlib.Path(folder))]
-    entries = [it for file in read if file.head for it in enumerate(file.entries, file.head.count)]
-    return [number for number, entry in entries if has_verdict(name, entry)]
+    """What of a folder changed a member's record to suspect, failed or left, in order."""
+    return verdicts_of(files_of(pathlib.Path(folder)), name)
 
 
 def unexplained(program, folder, name):
-    """What the program leaves out of a member: each entry that changed its record to suspect, failed or left has to be
-    told, and what that came from besides the change: what was told, or that a round or the time was over."""
+    """What the program leaves out of another member by a folder that has all entries: a change of its record to
+    suspect, failed or left, or what that came from."""
     output, _ = explanation(program, folder, Asked(name, is_all=True, is_json=True))
-    notes = [note for account in json.loads(output)["accounts"] for note in account["notes"]]
-    steps = [(note["entry"], {step["step"] for step in note["steps"]}) for note in notes]
-    told = [entry for entry, kinds in steps if "changed" in kinds and kinds & {"told", "ended", "time_over"}]
-    wanted = verdicts_in(folder, name)
-    lacks = [it for it in wanted if it not in told]
-    return f"{name.decode()}: entries {lacks} of {wanted} aren't explained" if lacks else None
+    broken = broken_laws(files_of(pathlib.Path(folder)), name, json.loads(output)["accounts"])
+    return f"{name.decode()}: {broken[0]}" if broken else None
+
+
+def standstill_told(program, folder, name):
+    """For how many seconds the clock of a node stood still in the minute before it suspected a member, by the latest
+    account of that. None if it has no such suspicion."""
+    output, _ = explanation(program, folder, Asked(name, is_json=True))
+    steps = [it for account in json.loads(output)["accounts"] for note in account["notes"] for it in note["steps"]]
+    told = [it["stood_still"] for it in steps if it["step"] == "minute"]
+    return told[-1] / 1000 if told else None
 
 
 def forms_of(name):

@@ -27,11 +27,13 @@ SECONDS = 20
 
 
 class Recorded:
-    """A node whose events are recorded in a folder, which may not be there. It ends with its input."""
+    """A node whose events are recorded in a folder, which may not be there, unless it is one that isn't recorded. It
+    ends with its input."""
 
-    def __init__(self, program, name, port, seeds, folder, lines="", begin=None):
+    def __init__(self, program, name, port, seeds, folder, lines="", begin=None, is_recorded=True):
         self.name, self.port, self.folder = name, port, pathlib.Path(folder)
-        self.text = file_of(name, port, seeds, f'{QUICK}record = "{folder}"\n{lines}')
+        record = f'record = "{folder}"\n' if is_recorded else ""
+        self.text = file_of(name, port, seeds, f"{QUICK}{record}{lines}")
         self.node = Node(program, self.text, "--until-input-ends", has_input=True, begin=begin)
 
     def leave(self):

@@ -11,7 +11,7 @@ _lg() {
   fi
   COMPREPLY=()
   case $before in
-    --config | --key-file)
+    --config | --key-file | --html)
       # Nothing is offered here, and so readline offers files.
       compopt -o default
       return

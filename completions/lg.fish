@@ -144,6 +144,6 @@ complete -c lg -n '__lg_is explain' -l at -x -d 'The moment of which is told, in
 complete -c lg -n '__lg_is explain' -l all -d 'Tells each time that it was suspected, failed or left, in place of the last'
 complete -c lg -n '__lg_is explain' -l entries -d 'Writes the number of each entry behind its moment'
 complete -c lg -n '__lg_is explain' -l json -d 'Writes JSON in place of lines'
-complete -c lg -n '__lg_is explain' -l html -d 'Writes a page for a browser in place of lines'
+complete -c lg -n '__lg_is explain' -l html -r -F -d 'The file into which a page for a browser is written, in place of lines'
 complete -c lg -n '__lg_is explain' -l help -s h -d 'Print help'
 complete -c lg -n '__lg_is version' -l help -s h -d 'Print help'

@@ -17,10 +17,10 @@ from fuzzing.wire import ACK, FAILED, LEFT, NACK, PING, PING_REQ, STATUS_WORDS, 
 STATUSES = {True: 0, False: 1}
 # The records that make an episode an account.
 VERDICTS = (SUSPECT, FAILED, LEFT)
-# How many milliseconds before an entry a round doesn't count any more.
+# How many milliseconds before an entry another doesn't count any more.
 MINUTE = 60_000
-# The latest wall time.
-MOST_WALL = 2**64 - 1
+# The latest wall time, and the longest time for which a clock is said to have stood still.
+MOST_WALL = MOST_STANDSTILL = 2**64 - 1
 
 
 @dataclass(frozen=True)
@@ -55,13 +55,14 @@ class Facts:
 
 @dataclass(frozen=True)
 class Placed:
-    """An entry with its number in its life and the head of its file. The facts before its event and after it are there
-    if all events since the opening are known, and accepted."""
+    """An entry with its number in its life, the head of its file, and for how long it says that the clock stood still.
+    The facts before its event and after it are there if all events since the opening are known, and accepted."""
 
     number: int
     head: Head
     event: Event
     reply: Reply
+    stood_still: int
     before: Facts | None
     after: Facts | None
 
@@ -118,8 +119,8 @@ def stretches_of(files, name):
         for number, entry in enumerate(read.entries, first):
             before = facts_of(life, name)
             life.due(entry.event)
-            stretches[-1].entries.append(
-                Placed(number, read.head, entry.event, entry.reply, before, facts_of(life, name)))
+            stretches[-1].entries.append(Placed(
+                number, read.head, entry.event, entry.reply, entry.stood_still, before, facts_of(life, name)))
         due = first + len(read.entries)
     return stretches
 
@@ -328,18 +329,26 @@ class Note:
         return [{"step": "timeout", "live": live_of(self.it.after.table), "confirmations": suspicion.confirmations(),
                  "most": suspicion.counted, "timeout": suspicion.lasts()}]
 
-    def rounds(self):
+    def earlier_of_minute(self):
+        """The entries before this one that came in the minute before it, by the greatest moments so far."""
+        greatest, now = self.stretch.greatest, self.stretch.greatest(self.place)
+        return [it for place, it in enumerate(self.earlier) if is_within_minute(now, greatest(place))]
+
+    def standstills(self):
+        """For how long this entry and those of the minute before say that the clock stood still."""
+        return [it.stood_still for it in [*self.earlier_of_minute(), self.it]]
+
+    def minute(self):
         if not self.ended() or not self.has_new_suspect():
             return []
-        greatest, now = self.stretch.greatest, self.stretch.greatest(self.place)
-        ended = [it for place, it in enumerate(self.earlier)
-                 if has_fired(it, ROUND_END) and is_within_minute(now, greatest(place))]
-        return [{"step": "rounds", "ended": len(ended), "suspected": sum(map(has_ended_with_suspicion, ended))}]
+        ended = [it for it in self.earlier_of_minute() if has_fired(it, ROUND_END)]
+        return [{"step": "minute", "ended": len(ended), "suspected": sum(map(has_ended_with_suspicion, ended)),
+                 "stood_still": min(sum(self.standstills()), MOST_STANDSTILL)}]
 
     def steps(self):
         """All of them, in the order of the table."""
         kinds = [self.pinged, self.unanswered, self.answered, self.ended, self.score, self.told, self.time_over,
-                 self.changed, self.timeout, self.rounds]
+                 self.changed, self.timeout, self.minute]
         return [step for kind in kinds for step in kind()]
 
     def data(self):

@@ -74,9 +74,9 @@ def sentence_of(step, sender):
         case "timeout":
             return (f"We knew {step['live']} live members. After {step['confirmations']} of {step['most']} "
                     f"confirmations the timeout was {step['timeout']} ms.")
-        case "rounds":
+        case "minute":
             return (f"In the minute before, {step['ended']} of our rounds ended, {step['suspected']} of them with a "
-                    "suspicion.")
+                    f"suspicion, and our clock stood still for {step['stood_still']} ms.")
 
 
 def note_line(note, asked):

@@ -19,7 +19,6 @@ from fuzzing.wire import (
 BEGUN, FIRST = 1_000_000_000_000, 20
 NOBODY = "c has not been suspected, and has neither failed nor left."
 MISSING = "  Some of the past is missing, so scores and timeouts may not be told."
-NO_ROUNDS = "In the minute before, 0 of our rounds ended, 0 of them with a suspicion."
 
 
 @dataclass(frozen=True)
@@ -34,6 +33,14 @@ class Row:
 
 
 # ---- Makers
+
+
+def minute_text(ended, suspected, stood_still=0):
+    return (f"In the minute before, {ended} of our rounds ended, {suspected} of them with a suspicion, and our clock "
+            f"stood still for {stood_still} ms.")
+
+
+NO_ROUNDS = minute_text(0, 0)
 
 
 def place(port):
@@ -151,7 +158,7 @@ KILLED_JSON = (
     '{"step":"score","before":0,"after":2},'
     '{"step":"changed","status":"suspect",' + RECORD + ':"b"},'
     '{"step":"timeout","live":5,"confirmations":0,"most":3,"timeout":30000},'
-    '{"step":"rounds","ended":0,"suspected":0}]},'
+    '{"step":"minute","ended":0,"suspected":0,"stood_still":0}]},'
     '{"entry":8,"moment":1940,"wall":1000000001920,"told_by":"d","steps":['
     '{"step":"told","status":"suspect",' + RECORD + ':"d"},'
     '{"step":"timeout","live":5,"confirmations":1,"most":3,"timeout":17500}]},'
@@ -288,24 +295,67 @@ def gap_rows():
             f"  6000  The round ended without an Ack. We suspected it at incarnation 0. {NO_ROUNDS}", MISSING])]
 
 
+# ---- The minute before
+
+OTHER_SUSPECT = claim(SUSPECT, accuser=b"b", member=b"d")
+# Of these rounds the first ended more than a minute before the last one, and the second just a minute before it.
+ROUNDS = [fired(999, ROUND_END, changed=[OTHER_SUSPECT]), fired(1000, ROUND_END, changed=[OTHER_SUSPECT]),
+          fired(1001, ROUND_END), fired(60_000, ROUND_END, changed=[OTHER_SUSPECT]),
+          fired(60_000, ROUND_START, sends=[ping(9)]), fired(61_000, ROUND_END, changed=[SUSPECT_RECORD])]
+LATER_END = fired(62_000, ROUND_END)
+
+
+def lines_of_rounds(number, *minute):
+    """What is told of the rounds: the start of the last one has this number."""
+    return ["c was suspected at 61000 ms (2001-09-09 01:46:41), here.",
+            f"  60000 [{number}]  We pinged it (probe 9, at 127.0.0.1:7003).",
+            f"  61000 [{number + 1}]  The round ended without an Ack. We suspected it at incarnation 0. "
+            f"{minute_text(*minute)}", MISSING]
+
+
+def row_of_rounds(what, files, *told):
+    return row(what, files, lines_of_rounds(*told), has_entries=True)
+
+
 def minute_rows():
     """Which rounds count: those that ended less than 60,000 ms before, of which one raised a suspicion. By a clock that
     went back nothing is later than the greatest moment so far, at which all that came behind it is counted."""
-    other = claim(SUSPECT, accuser=b"b", member=b"d")
-    rounds = [fired(999, ROUND_END, changed=[other]), fired(1000, ROUND_END, changed=[other]), fired(1001, ROUND_END),
-              fired(60_000, ROUND_END, changed=[other]), fired(60_000, ROUND_START, sends=[ping(9)])]
-    end = fired(61_000, ROUND_END, changed=[SUSPECT_RECORD])
-    def lines(number, counted, suspecting=1):
-        return ["c was suspected at 61000 ms (2001-09-09 01:46:41), here.",
-                f"  60000 [{number}]  We pinged it (probe 9, at 127.0.0.1:7003).",
-                f"  61000 [{number + 1}]  The round ended without an Ack. We suspected it at incarnation 0. In the "
-                f"minute before, {counted} of our rounds ended, {suspecting} of them with a suspicion.", MISSING]
+    return [
+        row_of_rounds("the minute before", [file_of(ROUNDS, 3, BEGUN, 60_000)], 7, 2, 1),
+        row_of_rounds("a later moment", [file_of([LATER_END, *ROUNDS], 3, BEGUN, 60_000)], 8, 5, 3),
+        row_of_rounds("before missing entries", [
+            file_of(lived(FIVE)), file_of([LATER_END], 3), file_of(ROUNDS, 5, BEGUN, 60_000)], 9, 2, 1)]
 
-    late = fired(62_000, ROUND_END)
-    return [row("the minute before", [file_of([*rounds, end], 3, BEGUN, 60_000)], lines(7, 2), has_entries=True),
-            row("a later moment", [file_of([late, *rounds, end], 3, BEGUN, 60_000)], lines(8, 5, 3), has_entries=True),
-            row("before missing entries", [file_of(lived(FIVE)), file_of([late], 3), file_of(
-                [*rounds, end], 5, BEGUN, 60_000)], lines(9, 2), has_entries=True)]
+
+def standing(entries, *times):
+    """Entries that say that the clock stood still for so many milliseconds."""
+    return [replace(it, stood_still=time) for it, time in zip(entries, times, strict=True)]
+
+
+def standing_rows():
+    """Which entries count of those that say that the clock stood still: this one and those of less than 60,000 ms
+    before, whatever happened, behind the last place where a life began or entries are missing."""
+    rounds = standing(ROUNDS, 70_000, 5000, 300, 0, 20, 4)
+    most = standing(ROUNDS, 0, 0, 2**64 - 1, 0, 0, 1)
+    later = replace(LATER_END, stood_still=1)
+    first_life = standing(lived(FIVE), 9000)
+    second_life = standing(lived(FIVE, *SUSPECTED), 1200, 0, 0, 0, 0, 0, 0, 300)
+    return [
+        row_of_rounds("a clock that stood still", [file_of(rounds, 3, BEGUN, 60_000)], 7, 2, 1, 324),
+        row_of_rounds("a clock that stood still, in two files", [
+            file_of(rounds[:3], 3), file_of(rounds[3:], 6, BEGUN, 60_000)], 7, 2, 1, 324),
+        row_of_rounds("a clock that stood still, behind a later moment", [
+            file_of([later, *rounds], 3, BEGUN, 60_000)], 8, 5, 3, 75_325),
+        row_of_rounds("a clock that stood still, before missing entries too", [
+            file_of(first_life), file_of([later], 3), file_of(rounds, 5, BEGUN, 60_000)], 9, 2, 1, 324),
+        row_of_rounds("a clock that stood still for longer than can be told", [
+            file_of(most, 3, BEGUN, 60_000)], 7, 2, 1, 18_446_744_073_709_551_615),
+        row("a clock that stood still, in another life too", [file_of(first_life), file_of(second_life)], [
+            "c was suspected at 1020 ms (2001-09-09 01:46:41), here.",
+            *(it.replace(NO_ROUNDS, minute_text(0, 0, 1500)) for it in LINES_OF_SUSPICION)])]
+
+
+# ---- Other rows
 
 
 def other_rows():
@@ -335,7 +385,7 @@ def other_rows():
             "  1600  d told us that it failed at incarnation 0. We took it as failed."])]
 
 
-ROWS = [*killed_rows(), *alarm_rows(), *told_rows(), *gap_rows(), *minute_rows(), *other_rows()]
+ROWS = [*killed_rows(), *alarm_rows(), *told_rows(), *gap_rows(), *minute_rows(), *standing_rows(), *other_rows()]
 
 
 def wrong_rows():

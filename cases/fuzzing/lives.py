@@ -1,5 +1,6 @@
 """Random recordings: lives of a node that hears, asks and waits, in files, and what may have become of these."""
 
+import random
 from dataclasses import replace
 
 from fuzzing import recording, wire
@@ -26,6 +27,7 @@ class Node:
     def __init__(self, dice, names, now, starts=None):
         self.dice, self.names, self.now, self.starts = dice, names, now, starts
         self.life, self.entries, self.known = Life(True), [], {}
+        self.clock = random.Random(f"{names} {now}")
         self.pace = dice.choice([1, 30, 300])
         self.usual = dice.choice([PING, PING_REQ, ACK, PAGE, GOSSIP])
         self.config = self.config_of()
@@ -49,7 +51,12 @@ class Node:
         if member and (self.starts is None or place in self.starts):
             self.known[place] = Before(member.score, member.number, member.ousted, tuple(member.view()))
         reply = self.life.due(event)
-        self.entries.append(Entry(self.dice.randrange(MOST_SEATS), event, reply))
+        self.entries.append(Entry(self.dice.randrange(MOST_SEATS), event, reply, self.stood_still()))
+
+    def stood_still(self):
+        """For how long the clock stood still before an entry: mostly not at all. It has dice of its own, so that
+        nothing else that happens depends on it."""
+        return self.clock.choice(NUMBER_EDGES) if self.clock.random() < 0.1 else 0
 
     def moment(self):
         self.now = max(0, self.now + self.dice.choice([0, 1, -1, self.dice.randrange(self.pace + 1)]))
@@ -112,9 +119,13 @@ def without_end(body, part):
 
 
 def long_number(dice, entry, names):
-    """An entry whose last number isn't in its least form, or is too great."""
+    """An entry of whose last two numbers one isn't in its least form, or is too great."""
     last = dice.choice([b"\x80\x00", b"\x80" * 9 + b"\x00", b"\x80" * 9 + b"\x02", b"\xff" * 10 + b"\x01"])
-    return without_end(spelled_entry(entry), spelled_count(entry.reply.next)) + last
+    stood_still = spelled_count(entry.stood_still)
+    before = without_end(spelled_entry(entry), stood_still)
+    if dice.random() < 0.5:
+        return before + last
+    return without_end(before, spelled_count(entry.reply.next)) + last + stood_still
 
 
 def with_reply(dice, entry, names):
@@ -190,7 +201,7 @@ def with_kind(dice, entry, names):
 
 def with_flag(dice, entry, names):
     """An entry whose flag is none, or none that fits."""
-    last = spelled_count(entry.reply.next)
+    last = spelled_count(entry.reply.next) + spelled_count(entry.stood_still)
     return without_end(spelled_entry(entry), last)[:-1] + bytes([dice.choice([0, 1, 2])]) + last
 
 
@@ -310,6 +321,15 @@ def damaged_file(dice, data):
     return damaged(dice, data) if how < 0.9 else damaged(dice, data[:4]) + data[4:]
 
 
+def named_files(dice, files):
+    """Files by their heads and bodies, of each its name and its bytes. Some numbers may be missing between theirs."""
+    number, found = dice.choice([-1, 0, 1, 9_999_999_000]), []
+    for head, bodies in files:
+        number += dice.choice([1, 1, 1, 5])
+        found.append((file_name(number), spelled_file(head) + b"".join(map(spelled_chunk, bodies))))
+    return found
+
+
 def recording_of(dice, kind_of_node=Node, changes=CHANGES):
     """The files of a recording, of each its name and its bytes: lives of nodes of a kind, with some of these changes."""
     names, now, files = names_of(dice)[:8], dice.choice([0, 20, 10**6]), []
@@ -320,10 +340,7 @@ def recording_of(dice, kind_of_node=Node, changes=CHANGES):
         files += node.files()
     for _ in range(dice.choice([0, 1, 1, 1, 1, 2])):
         dice.choice(changes)(dice, files, names)
-    number, found = dice.choice([-1, 0, 1, 9_999_999_000]), []
-    for head, bodies in files:
-        number += dice.choice([1, 1, 1, 5])
-        found.append((file_name(number), spelled_file(head) + b"".join(map(spelled_chunk, bodies))))
+    found = named_files(dice, files)
     for _ in range(dice.choice([0, 0, 0, 1, 1, 2])):
         place = dice.randrange(len(found))
         found[place] = found[place][0], damaged_file(dice, found[place][1])

@@ -21,7 +21,7 @@ class ExplanationCase(Case):
 
 class WatchedNode(lives.Node):
     """A node that hears much about few members, and mostly answers to the probe that runs. Its rounds may last a part
-    of a minute."""
+    of a minute, and its clock often stands still."""
 
     def __init__(self, dice, names, now, _):
         starts = {dice.randrange(1, lives.MOST_EVENTS) for _ in range(dice.choice([0, 1, 2]))}
@@ -32,6 +32,9 @@ class WatchedNode(lives.Node):
         rounds = {"interval_ms": dice.choice([100, 100, 1000, 20_000, 60_000]), "max_score": dice.choice([0, 8, 8]),
                   "gossip_ms": dice.choice([0, 0, 200])}
         return super().config_of() | rounds
+
+    def stood_still(self):
+        return self.clock.choice([1, 30, 1500, *lives.NUMBER_EDGES]) if self.clock.random() < 0.3 else 0
 
     def question(self):
         """Another event, which is a Leave more often once much has happened."""
@@ -176,12 +179,29 @@ def last_helper(it, address):
     return {"member": name, "address": wire.address_text(address)}
 
 
+def others_standstills(it):
+    """What isn't told of a clock: what the entries before say alone."""
+    return [earlier.stood_still for earlier in it.earlier_of_minute()]
+
+
+def standstills_of_rounds(it):
+    """What isn't told of a clock: what the entries say that are counted as ends of rounds, and this one."""
+    ended = [earlier for earlier in it.earlier_of_minute() if explain.has_fired(earlier, ROUND_END)]
+    return [earlier.stood_still for earlier in [*ended, it.it]]
+
+
+def all_standstills(it):
+    """What isn't told of a clock: what all entries before say, however long before."""
+    return [earlier.stood_still for earlier in [*it.earlier, it.it]]
+
+
 class Explanations(Recordings):
     """Each explanation is a case."""
 
     name = "explanations"
     # An episode ends when the member is calm; an answer is for this member, and of its group; what is within a minute,
-    # and what came in time; which record an entry has; where a file goes on, and where a probe ends.
+    # and what came in time; which record an entry has; where a file goes on, and where a probe ends; for how long the
+    # clock stood still.
     wrong_rules = (
         (explain, "is_calm", lambda *_: False), (explain, "is_meant", lambda *_: True),
         (explain, "packet_heard", lambda it: it.event.packet), (explain, "VERDICTS", (FAILED, LEFT)),
@@ -193,7 +213,9 @@ class Explanations(Recordings):
         (explain, "has_ended_with_suspicion", lambda it: explain.has_fired(it, ROUND_END)),
         (explain.Placed, "wall", lambda it: it.head.begun + it.event.moment), (Note, "ended", ended_by_record),
         (Note, "greatest_moment", lambda it: it.earlier[it.start].event.moment), (Note, "helper", last_helper),
-        (Note, "has_other_suspicion", lambda it: it.it.are_known() and it.record is not None))
+        (Note, "has_other_suspicion", lambda it: it.it.are_known() and it.record is not None),
+        (Note, "standstills", others_standstills), (Note, "standstills", standstills_of_rounds),
+        (Note, "standstills", all_standstills), (explain, "MOST_STANDSTILL", 2**70))
 
     def make(self, dice):
         files, names = lives.recording_of(dice, WatchedNode, CHANGES)

@@ -87,6 +87,19 @@ def without_deadline(entry):
     return recording.spelled_entry(replace(entry, reply=replace(entry.reply, fired=fired and (*fired[:2], 0))))
 
 
+def short_standstill(it, entry=recording.FieldReader.entry):
+    """What isn't read of an entry: that the clock stood still for longer than there are moments."""
+    found = entry(it)
+    if found.stood_still > MOST_MOMENT:
+        raise recording.RecordingFault(recording.NUMBER)
+    return found
+
+
+def unhalted(entry, **changes):
+    """Entries that aren't compared: the one with the due reply as if the clock didn't stand still before it."""
+    return replace(entry, stood_still=0, **changes)
+
+
 def rides_with(name, reply, is_reply_about=judge.is_reply_about):
     """What isn't told: a packet that is sent and has a claim about the member."""
     return is_reply_about(name, reply) or any(it.member == name for _, packet in reply.sends for it in packet.claims)
@@ -147,6 +160,7 @@ class Recordings(RunKind):
         (recording.FieldReader, "record", last_record), (recording.FieldReader, "count", long_count),
         (recording.FieldReader, "incarnation", wire.Reader.number), (recording, "whole", unended),
         (recording.FieldReader, "head", front_of_head), (judge, "spelled_entry", without_deadline),
+        (recording.FieldReader, "entry", short_standstill), (judge, "replace", unhalted),
         (judge, "ASKS", (PING,)), (judge, "ASKS", (PING_REQ,)), (judge, "ANSWERS", ()),
         (judge, "OF_A_MEMBER", (FORGET,)), (judge, "OF_A_MEMBER", (SUSPICION,)),
         (judge, "is_reply_about", rides_with), (judge, "is_well_opened", lambda _: True),

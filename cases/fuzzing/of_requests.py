@@ -22,9 +22,9 @@ SECONDS = 40
 MOST_REQUESTS = 12
 CONNECTIONS = 50
 METHODS = ["GET", "GET", "GET", "GET", "HEAD", "HEAD", "POST", "PUT", "DELETE", "OPTIONS", "PATCH"]
-PATHS = ["/", "//", "/v1", "/v1/", "/v1/members", "/v1/members/", "/v1/members/", "/v1/health", "/v1/changes",
-         "/v1/config", "/v1/config/", "/v1/leave", "/v1/leave/", "/metrics", "/v1/prometheus",
-         "/v1/prometheus/", "/favicon.ico"]
+PATHS = ["/", "//", "/v1", "/v1/", "/v1/members", "/v1/members/", "/v1/members/", "/v1/explain", "/v1/explain/",
+         "/v1/health", "/v1/changes", "/v1/config", "/v1/config/", "/v1/leave", "/v1/leave/", "/metrics",
+         "/v1/prometheus", "/v1/prometheus/", "/favicon.ico"]
 MEMBERS = ["b", "a", "c", "d", "e", "nobody", "a+b", "%62", "n" * 32, "n" * 33, "b/", ""]
 ALL_QUERIES = ["", "status=alive", "status=suspect", "status=failed", "status=left", "status=dead", "status=",
            "after=0", "after=0&wait_ms=1", "wait_ms=5", "wait_ms=30001", "wait_ms=1&after=0", "after=1&after=1",
@@ -60,7 +60,7 @@ def request_of(dice):
     """A whole request."""
     path = dice.choice(PATHS)
     queries = QUERIES.get(path, ALL_QUERIES) if dice.random() < 0.8 else ALL_QUERIES
-    target = path + (dice.choice(MEMBERS) if path == web.ONE_MEMBER else "")
+    target = path + (dice.choice(MEMBERS) if path in (web.ONE_MEMBER, web.EXPLAINED) else "")
     target += "?" + dice.choice(queries) if dice.random() < 0.5 else ""
     method, host = dice.choice(METHODS), dice.choice(HOSTS if dice.random() < 0.9 else FOREIGN_HOSTS)
     fields = "".join(dice.choice(FIELDS) for _ in range(dice.randrange(3)))
@@ -136,6 +136,7 @@ class Requests:
     wrong_rules = (
         (wire, "MOST_NAME", 31), (web, "SERVED", ("GET", "HEAD", "OPTIONS")), (web, "MOST_WAIT", 4),
         (web, "OWN_NAME", "evil.example"), (web, "LEAVE", "/v1/leave/"), (web, "TARGETS", "/v1/prometheus/"),
+        (web, "EXPLAINED", "/v1/explain"),
         (web, "MEMBERS_QUERIES", ("", "status=alive", "status=suspect")), (web, "PLAIN", (*web.PLAIN, "/v1/config/")))
 
     def make(self, dice):

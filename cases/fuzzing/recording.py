@@ -61,11 +61,13 @@ class Event:
 
 @dataclass(frozen=True)
 class Entry:
-    """What happened, by which seat, and what was replied."""
+    """What happened, by which seat, and what was replied; and for how many milliseconds the node's clock stood still
+    since the entries that were taken before it."""
 
     seat: int
     event: Event
     reply: Reply
+    stood_still: int = 0
 
 
 @dataclass(frozen=True)
@@ -217,7 +219,7 @@ class FieldReader(wire.Reader):
         seat = self.byte()
         if seat > MOST_SEAT:
             raise RecordingFault(NUMBER)
-        return Entry(seat, self.event(), self.reply())
+        return Entry(seat, self.event(), self.reply(), self.count())
 
     def first_fields(self):
         """The fields of a head up to the number of entries before it."""
@@ -363,7 +365,8 @@ def spelled_reply(reply):
 
 def spelled_entry(entry):
     """The body of an entry."""
-    return bytes([entry.seat]) + spelled_event(entry.event) + spelled_reply(entry.reply)
+    return (bytes([entry.seat]) + spelled_event(entry.event) + spelled_reply(entry.reply)
+            + spelled_count(entry.stood_still))
 
 
 def spelled_head(head):

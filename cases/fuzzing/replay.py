@@ -3,13 +3,13 @@
 The model of a detector says which reply is due.
 """
 
-from dataclasses import dataclass
+from dataclasses import dataclass, replace
 
 from fuzzing.known import FORGET, SUSPICION
 from fuzzing.member import Member, Reply
 from fuzzing.numbers import fault_of
 from fuzzing.recording import (
-    ASK, HEALTH, HEARD, LEAVE, MOST_MOMENT, OPEN, PULL, SHORT, TICK, Entry, read_file, spelled_entry)
+    ASK, HEALTH, HEARD, LEAVE, MOST_MOMENT, OPEN, PULL, SHORT, TICK, read_file, spelled_entry)
 from fuzzing.script import reply_lines
 from fuzzing.wire import ACK, NACK, PING, PING_REQ, address_text, spelled
 
@@ -194,7 +194,7 @@ class Replay:
         if was_known and due is None:
             self.lines.append(f"unchecked from entry {number}")
         told = due or entry.reply
-        differs = spelled_entry(Entry(entry.seat, entry.event, told)) != spelled_entry(entry)
+        differs = spelled_entry(replace(entry, reply=told)) != spelled_entry(entry)
         self.entries, self.differing = self.entries + 1, self.differing + differs
         self.unchecked += due is None
         if self.window.tells(entry.event, told, entry.reply):

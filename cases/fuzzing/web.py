@@ -11,6 +11,8 @@ from fuzzing.wire import STATUS_WORDS, ip_text, is_name, port_of
 MOST_WAIT = 30_000
 PLAIN = ("/", "/v1/health", "/v1/config", "/metrics")
 ONE_MEMBER = "/v1/members/"
+# What a recording tells of a member: the node of the cases doesn't record.
+EXPLAINED = "/v1/explain/"
 JSON = "application/json"
 MEDIA = {"/": "text/html; charset=utf-8", "/metrics": "text/plain; version=0.0.4; charset=utf-8"}
 MEMBERS_QUERIES = ("", *(f"status={it}" for it in STATUS_WORDS.values()))
@@ -85,6 +87,8 @@ def code_of(method, host, target, known):
     if path.startswith(ONE_MEMBER):
         name = path.removeprefix(ONE_MEMBER).encode()
         return 400 if query or not is_name(name) else 200 if name in known else 404
+    if path.startswith(EXPLAINED):
+        return 400 if query or not is_name(path.removeprefix(EXPLAINED).encode()) else 404
     if path == "/v1/members":
         return 200 if query in MEMBERS_QUERIES else 400
     if path == "/v1/changes":

@@ -9,7 +9,7 @@ ghost use Rattle.std.specs.Prelude.{◌≡◌, ◌++◌, OnOk, codes, string_byt
 ghost use Rattle.std.specs.List.{flat_map};
 ghost use Rattle.lg_rules.specs.Meaning.Claim.{accuser_of};
 ghost use Rattle.lg_accounts.specs.Meaning.Json.{array_values, by_json, ended_json, helper_json, later_value};
-ghost use Rattle.lg_accounts.specs.Meaning.Json.{name_json, pinged_front, pinged_json, record_json, rounds_json};
+ghost use Rattle.lg_accounts.specs.Meaning.Json.{name_json, pinged_front, pinged_json, record_json, minute_json};
 ghost use Rattle.lg_accounts.specs.Meaning.Json.{scored_json, status_json, step_json, timeout_json, unanswered_front};
 ghost use Rattle.lg_accounts.specs.Meaning.Json.{unanswered_json};
 
@@ -183,14 +183,20 @@ fn put_timeout(
     write!(text, ",\"most\":{most},\"timeout\":{timeout_ms}}}")
 }
 
-/// Appends how the rounds of the minute before ended.
-#[tactic(auto, unfolding(crate::specs::Meaning::Json::rounds_json))]
-fn put_rounds(ended: u64, suspected: u64, text: &mut String) -> Result<(), NoMemory>
-    ensures { OnOk result (string_bytes text.new ≡ string_bytes text.old ++ rounds_json ended suspected) }
+/// Appends how the rounds of the minute before ended, and for how long the clock stood still in it.
+#[tactic(auto, unfolding(crate::specs::Meaning::Json::minute_json))]
+fn put_minute(
+    ended: u64,
+    suspected: u64,
+    stood_still_ms: u64,
+    text: &mut String,
+) -> Result<(), NoMemory>
+    ensures { OnOk result (string_bytes text.new
+        ≡ string_bytes text.old ++ minute_json ended suspected stood_still_ms) }
 {
     write!(
         text,
-        "{{\"step\":\"rounds\",\"ended\":{ended},\"suspected\":{suspected}}}"
+        "{{\"step\":\"minute\",\"ended\":{ended},\"suspected\":{suspected},\"stood_still\":{stood_still_ms}}}"
     )
 }
 
@@ -218,7 +224,11 @@ fn put_step(step: &NoteStep, text: &mut String) -> Result<(), NoMemory>
             most,
             timeout_ms,
         } => put_timeout(*live, *confirmations, *most, *timeout_ms, text),
-        NoteStep::Rounds { ended, suspected } => put_rounds(*ended, *suspected, text),
+        NoteStep::Minute {
+            ended,
+            suspected,
+            stood_still_ms,
+        } => put_minute(*ended, *suspected, *stood_still_ms, text),
     }
 }
 

@@ -83,7 +83,7 @@ fn step_y(step: &NoteStep) -> u64
         NoteStep::Pinged { .. } | NoteStep::Unanswered { .. } | NoteStep::RoundEnded { .. } => 20,
         NoteStep::Acked { .. } | NoteStep::Nacked { .. } => 50,
         NoteStep::Told { .. } => 80,
-        NoteStep::Scored { .. } | NoteStep::Rounds { .. } => 110,
+        NoteStep::Scored { .. } | NoteStep::Minute { .. } => 110,
         NoteStep::Changed { .. } | NoteStep::TimeOver | NoteStep::Suspected { .. } => 140,
     }
 }
@@ -118,7 +118,7 @@ fn step_class(step: &NoteStep) -> &'static str
     ensures { result.now ≡ step_class step.now }
 {
     match step {
-        NoteStep::Pinged { .. } | NoteStep::Rounds { .. } => "probe",
+        NoteStep::Pinged { .. } | NoteStep::Minute { .. } => "probe",
         NoteStep::Unanswered { .. } | NoteStep::Nacked { .. } => "late",
         NoteStep::RoundEnded { is_failed } => ended_class(*is_failed),
         NoteStep::Acked { .. } => "ack",

@@ -12,7 +12,7 @@ ghost use Rattle.lg_accounts.specs.Meaning.Sentences.{asked_text, at_incarnation
 ghost use Rattle.lg_accounts.specs.Meaning.Sentences.{claim_text, ended_text, acked_text, helper_text, live_text};
 ghost use Rattle.lg_accounts.specs.Meaning.Sentences.{nacked_text, other_helpers, pinged_text, rose_or_fell};
 ghost use Rattle.lg_accounts.specs.Meaning.Sentences.{rounds_text, scored_text, sentence_behind, sentence_text};
-ghost use Rattle.lg_accounts.specs.Meaning.Sentences.{sentences_text, timeout_text, told_alive, told_gone};
+ghost use Rattle.lg_accounts.specs.Meaning.Sentences.{sentences_text, stood_text, timeout_text, told_alive, told_gone};
 ghost use Rattle.lg_accounts.specs.Meaning.Sentences.{told_suspect, unanswered_text};
 
 use crate::names::{name_text, teller_text};
@@ -246,8 +246,16 @@ fn put_rounds(ended: u64, suspected: u64, text: &mut String) -> Result<(), NoMem
 {
     write!(
         text,
-        "In the minute before, {ended} of our rounds ended, {suspected} of them with a suspicion."
+        "In the minute before, {ended} of our rounds ended, {suspected} of them with a suspicion, "
     )
+}
+
+/// Appends for how long the clock stood still in it.
+#[tactic(auto, unfolding(crate::specs::Meaning::Sentences::stood_text))]
+fn put_stood(stood_still_ms: u64, text: &mut String) -> Result<(), NoMemory>
+    ensures { OnOk result (string_bytes text.new ≡ string_bytes text.old ++ stood_text stood_still_ms) }
+{
+    write!(text, "and our clock stood still for {stood_still_ms} ms.")
 }
 
 /// Appends the sentences of a step. `teller` is the sender of the packet that was heard, if one was.
@@ -283,7 +291,14 @@ pub(crate) fn put_sentence(
             put_live(*live, text)?;
             put_timeout(*confirmations, *most, *timeout_ms, text)
         }
-        NoteStep::Rounds { ended, suspected } => put_rounds(*ended, *suspected, text),
+        NoteStep::Minute {
+            ended,
+            suspected,
+            stood_still_ms,
+        } => {
+            put_rounds(*ended, *suspected, text)?;
+            put_stood(*stood_still_ms, text)
+        }
     }
 }
 

@@ -87,11 +87,13 @@ pub enum NoteStep {
         /// The timeout after the confirmations that came.
         timeout_ms: u64,
     },
-    /// How the rounds of the node ended in the minute before.
-    Rounds {
-        /// How many ended.
+    /// What was of the node in the minute before: how its rounds ended, and for how long its clock stood still.
+    Minute {
+        /// How many rounds ended.
         ended: u64,
         /// How many of these ended with a suspicion of some member.
         suspected: u64,
+        /// For how long the clock of the node stood still.
+        stood_still_ms: u64,
     },
 }

@@ -2,10 +2,10 @@
 //!
 //! Defined in: `specs/Meaning/Values.antt`, `specs/Meaning/Calls.antt`.
 //! Tested in: `lg_agent_tests/src/agent/cutting.rt`.
-ghost use Rattle.std.specs.Prelude.{◌≡◌, [], None, Some, MatchOption};
+ghost use Rattle.std.specs.Prelude.{◌≡◌, [], None, Some, IfOk, MatchOption};
 ghost use Rattle.lg_agent.specs.Meaning.Values.{nothing_cut_off};
 
-use lg_detector::Summary;
+use lg_detector::{Detector, NoMemory, Summary};
 use lg_history::{Entry, History};
 use std::alloc::Global;
 use std::marker::Model;
@@ -16,12 +16,15 @@ use std::marker::Model;
 ///
 /// One of them can be handed in again and again. Its list and that of the history are exchanged each time. So behind
 /// the first rotation the history's list grows anew, and then no more, as long as no rotation cuts off more entries
-/// than those before it.
+/// than those before it. The summary that it was handed is overwritten by the one that the next rotation keeps. So at
+/// most its first two rotations allocate one.
 #[derive(Drop)]
 pub struct CutOff {
     entries: Vec<Entry>,
     before: Option<Summary>,
     base: u64,
+    // A summary that counts no more, of which only the memory is kept. A contract doesn't see it.
+    spare: Option<Summary>,
 }
 
 impl Model for CutOff {
@@ -41,6 +44,7 @@ impl CutOff {
             entries: Vec::new(alloc),
             before: None,
             base: 0,
+            spare: None,
         }
     }
 
@@ -65,13 +69,35 @@ impl CutOff {
         self.base
     }
 
-    /// Drops the entries and the summary. Keeps the memory of the list.
+    /// Drops the entries, and has no summary from then on. Keeps the memory of the list and that of the summary.
     pub fn clear(&mut self)
         ensures { self.new ≡ nothing_cut_off }
     {
         self.entries.clear();
-        self.before = None;
+        if let Some(before) = self.before.take() {
+            self.spare = Some(before);
+        }
         self.base = 0;
+    }
+
+    /// A summary of all that happened to a detector, in the memory that is kept for one, or in a new box if none is
+    /// kept. The only error is that memory was refused for the box.
+    pub(crate) fn summary_of(
+        &mut self,
+        alloc: Global,
+        detector: &Detector,
+    ) -> Result<Summary, NoMemory>
+        ensures summary { IfOk result (λ s. s ≡ detector.now) }
+        ensures same { self.new ≡ self.old }
+    {
+        match self.spare.take() {
+            Some(spare) => {
+                let mut summary = spare;
+                detector.summary_into(&mut summary);
+                Ok(summary)
+            }
+            None => detector.summary(alloc),
+        }
     }
 
     /// Takes all entries of a history, with the summary and the number of those before them. Drops nothing but what is

@@ -5,6 +5,8 @@ pub mod BodyExamples
 pub mod ChangeExamples
 pub mod Changes
 pub mod Examples
+pub mod ExplainExamples
+pub mod Explaining
 pub mod LeaveExamples
 pub mod Leaving
 pub mod Members

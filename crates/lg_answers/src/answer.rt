@@ -11,6 +11,7 @@ ghost use Rattle.lg_answers.specs.Meaning.Answers.{health_status, member_answer,
 
 use crate::changes::changes_body;
 use crate::config::config_body;
+use crate::explaining::{Explained, explained_answer};
 use crate::health::{error_body, health_body};
 use crate::members::{member_body, members_body};
 use crate::metrics::metrics_body;
@@ -128,6 +129,7 @@ fn route_answer(
             let body = targets_body(alloc, snapshot, setup.status, port)?;
             Ok(found(Kind::Json, body))
         }
+        Route::Explain(_) => explained_answer(alloc, &Explained::Unrecorded),
     }
 }
 
@@ -135,9 +137,13 @@ fn route_answer(
 /// configuration that runs. It is made at once: to wait for a change is the caller's, who finds by
 /// [`wait_of`](crate::wait_of) how long.
 ///
-/// The status is 200; 404 if the path or the member is unknown; 405 if the path takes POST alone; 400 if the name or
-/// the query is faulty; and 503 for the health if this member is ousted. The body of a fault is `{"error":"WORDS"}`.
-/// Memory is allocated for the body and for what it is made of. The only error is that it was refused.
+/// What a recording tells isn't read here: a request for it is answered as by a node that doesn't record. A caller whose
+/// node records finds such a request by [`route_of`], as [`Route::Explain`], and answers it by [`explained_answer`].
+///
+/// The status is 200; 404 if the path or the member is unknown, or a recording is asked for; 405 if the path takes POST
+/// alone; 400 if the name or the query is faulty; and 503 for the health if this member is ousted. The body of a fault
+/// is `{"error":"WORDS"}`. Memory is allocated for the body and for what it is made of. The only error is that it was
+/// refused.
 #[tactic(auto, unfolding(crate::specs::Meaning::Answers::answer_to))]
 pub fn answer_to(
     alloc: Global,

@@ -2,14 +2,15 @@
 //! reads and writes nothing, and starts no thread: its calls make an answer of plain values.
 //!
 //! [`answer_to`] makes the answer to a request, from a [`Snapshot`], the [`Changes`] that are kept, and the
-//! [`ShownConfig`]. [`route_of`] says which route a request has, and [`wait_of`] what it waits for. What comes of a
-//! request to leave says [`leave_reply`]. `specs/Meaning` defines each route and each body, and the files there whose
-//! names end in `Examples` have worked ones.
+//! [`ShownConfig`]. [`route_of`] says which route a request has, and [`wait_of`] what it waits for. What a recording
+//! tells of a member is answered by [`explained_answer`]. What comes of a request to leave says [`leave_reply`].
+//! `specs/Meaning` defines each route and each body, and the files there whose names end in `Examples` have worked ones.
 #![tactic(auto)]
 
 mod answer;
 mod changes;
 mod config;
+mod explaining;
 mod health;
 mod leave;
 mod members;
@@ -24,6 +25,7 @@ mod snapshot;
 mod targets;
 
 pub use answer::answer_to;
+pub use explaining::{Explained, MISSING_MS, explained_answer};
 pub use leave::{LEAVE_FIELD, LeaveAsked, LeaveReply, is_leave, leave_reply};
 pub use lg_changes::{Altered, Change, Changes, MAX_CHANGES};
 pub use lg_config::{Host, HostName, Place, SeedPlace};

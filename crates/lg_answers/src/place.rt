@@ -1,13 +1,16 @@
-//! The fixed paths that a node answers, in one table. The path of a single member isn't among them.
+//! The fixed paths that a node answers, in one table. The paths with the name of a member aren't among them.
 //!
 //! Defined in: `specs/Meaning/Places.antt`.
 //! Tested in: `lg_answers_tests/src/route.rt`.
 ghost use Rattle.std.specs.Prelude.{◌≡◌};
 ghost use Rattle.std.specs.Option.{option_map};
-ghost use Rattle.lg_answers.specs.Meaning.Places.{has_path, member_name, place_at, place_path};
+ghost use Rattle.lg_answers.specs.Meaning.Places.{explained_name, has_path, member_name, place_at, place_path};
 
 /// The front of a single member's path: a name follows it.
 const MEMBERS: &[u8] = b"/v1/members/";
+
+/// The front of the path of what the recording tells of a member: the name follows it.
+const EXPLAIN: &[u8] = b"/v1/explain/";
 
 /// A fixed path that a node answers.
 #[derive(Clone, Copy, Debug, PartialEq, Eq)]
@@ -80,4 +83,11 @@ pub(crate) fn member_name(path: &[u8]) -> Option<&[u8]>
     ensures { option_map (λ name. name.now) result ≡ member_name path.now }
 {
     path.strip_prefix(MEMBERS)
+}
+
+/// The same of a path of what the recording tells of a member: what is behind `/v1/explain/`.
+pub(crate) fn explained_name(path: &[u8]) -> Option<&[u8]>
+    ensures { option_map (λ name. name.now) result ≡ explained_name path.now }
+{
+    path.strip_prefix(EXPLAIN)
 }

@@ -17,7 +17,7 @@ pub enum RouteFault {
     /// The path takes POST alone.
     #[error("this path takes POST alone")]
     PostOnly,
-    /// What stands behind `/v1/members/` is no name.
+    /// What stands behind `/v1/members/` or `/v1/explain/` is no name.
     #[error("a name has to be 1 to 32 bytes of A-Z a-z 0-9 . _ -")]
     NoName,
     /// The path takes no query, and there is one.

@@ -4,11 +4,11 @@
 //! Tested in: `lg_answers_tests/src/route.rt`.
 ghost use Rattle.std.specs.Prelude.{◌≡◌};
 ghost use Rattle.std.specs.Option.{option_map};
-ghost use Rattle.lg_answers.specs.Meaning.Routes.{changes_route, has_kind_query, is_kind_of, kind_query, member_route};
-ghost use Rattle.lg_answers.specs.Meaning.Routes.{members_route, path_route, place_route, plain_route, route_of};
-ghost use Rattle.lg_answers.specs.Meaning.Routes.{targets_route, wait_of};
+ghost use Rattle.lg_answers.specs.Meaning.Routes.{changes_route, explain_route, has_kind_query, is_kind_of, kind_query};
+ghost use Rattle.lg_answers.specs.Meaning.Routes.{member_route, members_route, path_route, place_route, plain_route};
+ghost use Rattle.lg_answers.specs.Meaning.Routes.{route_of, targets_route, wait_of};
 
-use crate::place::{Place, member_name};
+use crate::place::{Place, explained_name, member_name};
 use crate::query::{changes_asked, port_asked};
 use crate::reason::RouteFault;
 use lg_http::Wait;
@@ -55,6 +55,8 @@ pub enum Route {
     /// The members that are alive as targets of Prometheus, `/v1/prometheus`: at this port, or at that of the node's
     /// own status server.
     Targets(Option<u16>),
+    /// What the recording tells of the member with a name, `/v1/explain/NAME`.
+    Explain(Name),
 }
 
 impl StatusKind {
@@ -128,6 +130,16 @@ fn member_route(name: &[u8], query: &[u8]) -> Result<Route, RouteFault>
     }
 }
 
+/// The route of what the recording tells of the member whose name these bytes are.
+fn explain_route(name: &[u8], query: &[u8]) -> Result<Route, RouteFault>
+    ensures { result ≡ explain_route name.now query.now }
+{
+    match Name::new(name) {
+        Ok(name) => plain_route(Route::Explain(name), query),
+        Err(_) => Err(RouteFault::NoName),
+    }
+}
+
 /// The route of the changes that a query asks for.
 fn changes_route(query: &[u8]) -> Result<Route, RouteFault>
     ensures { result ≡ changes_route query.now }
@@ -174,6 +186,9 @@ fn path_route(path: &[u8], query: &[u8]) -> Result<Route, RouteFault>
     if let Some(name) = member_name(path) {
         return member_route(name, query);
     }
+    if let Some(name) = explained_name(path) {
+        return explain_route(name, query);
+    }
     match Place::at(path) {
         Some(place) => place_route(place, query),
         None => Err(RouteFault::UnknownPath),
@@ -187,7 +202,7 @@ fn path_route(path: &[u8], query: &[u8]) -> Result<Route, RouteFault>
 /// |---|---|
 /// | `/`, `/v1/health`, `/v1/config`, `/metrics` | none |
 /// | `/v1/members` | none, or `status=alive`, `status=suspect`, `status=failed` or `status=left` |
-/// | `/v1/members/NAME` | none; NAME is a name of 1 to 32 bytes of `A-Z a-z 0-9 . _ -` |
+/// | `/v1/members/NAME`, `/v1/explain/NAME` | none; NAME is a name of 1 to 32 bytes of `A-Z a-z 0-9 . _ -` |
 /// | `/v1/changes` | none, or `after=V` and `wait_ms=W`, each at most once and in any order, with an `&` between them |
 /// | `/v1/prometheus` | none, or `port=P`, P a number of 1 to 65535 |
 ///

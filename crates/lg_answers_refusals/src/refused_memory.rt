@@ -2,8 +2,8 @@
 //! request are compared, of which one may be refused.
 use arrayvec::ArrayVec;
 use lg_answers::{
-    Changes, Drops, LeaveAsked, MAX_CHANGES, NodeNumber, Place, SeedPlace, ShownConfig, Snapshot,
-    answer_to,
+    Changes, Drops, Explained, LeaveAsked, MAX_CHANGES, NodeNumber, Place, SeedPlace, ShownConfig,
+    Snapshot, answer_to, explained_answer,
 };
 use lg_counters::Counters;
 use lg_http::HttpAnswer;
@@ -91,6 +91,17 @@ fn compared(
     }
 }
 
+/// Whether two of three answers are given, and no two differ.
+fn agree(answers: &[Result<HttpAnswer, AllocError>; 3]) -> bool {
+    let [first, second, third] = answers;
+    let pairs = [
+        compared(first, second),
+        compared(first, third),
+        compared(second, third),
+    ];
+    pairs.contains(&Some(true)) && !pairs.contains(&Some(false))
+}
+
 /// Whether b is ill, and the path and the query of a request.
 type Row = (bool, &'static str, Option<&'static str>);
 
@@ -110,15 +121,11 @@ impl Sources {
 
     /// Whether two answers to a request are given, and no two differ.
     fn is_met(&self, alloc: Global, row: &Row) -> bool {
-        let first = self.answer(alloc, row);
-        let second = self.answer(alloc, row);
-        let third = self.answer(alloc, row);
-        let pairs = [
-            compared(&first, &second),
-            compared(&first, &third),
-            compared(&second, &third),
-        ];
-        pairs.contains(&Some(true)) && !pairs.contains(&Some(false))
+        agree(&[
+            self.answer(alloc, row),
+            self.answer(alloc, row),
+            self.answer(alloc, row),
+        ])
     }
 }
 
@@ -131,6 +138,7 @@ const ROWS: &[Row] = &[
     (false, "/v1/members", Some("status=left")),
     (false, "/v1/members/a", None),
     (false, "/v1/members/d", None),
+    (false, "/v1/explain/a", None),
     (false, "/v1/health", None),
     (true, "/v1/health", None),
     (false, "/v1/changes", None),
@@ -161,6 +169,30 @@ fn refused_memory(rt: HostRuntime) {
         };
         let is_met = made.is_ok_and(|made| made.is_met(rt.alloc(), row));
         assert!(rt; is_met, "{row:?}");
+    }
+}
+
+/// What a recording tells, which may be refused memory once itself. What was handed in can be asked for again.
+#[test]
+fn explains_after_refused_memory(rt: HostRuntime) {
+    let line = b"{\"member\":\"c\",\"accounts\":[]}\n";
+    let told = match Vec::from_slice(rt.alloc(), line) {
+        Err(_) => Vec::from_slice(rt.alloc(), line),
+        told => told,
+    };
+    for explained in [
+        Ok(Explained::Unrecorded),
+        Ok(Explained::Unreadable),
+        told.map(Explained::Told),
+    ] {
+        let is_met = explained.as_ref().is_ok_and(|explained| {
+            agree(&[
+                explained_answer(rt.alloc(), explained),
+                explained_answer(rt.alloc(), explained),
+                explained_answer(rt.alloc(), explained),
+            ])
+        });
+        assert!(rt; is_met, "{explained:?}");
     }
 }
 

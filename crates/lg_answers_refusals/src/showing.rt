@@ -16,6 +16,7 @@ use lg_testing::{alive, at, failed, letter, local, packet, ping, suspect};
 use lg_timing::{Config, Moment};
 use lg_view::UnnamedBook;
 use std::alloc::Global;
+use std::fs::Files;
 use std::marker::Brand;
 use std::str;
 use std::sync::Wait;
@@ -142,7 +143,7 @@ fn first_unmet<A: AgentName, S: Site, R: Wait>(
 
 /// Does the steps with two passes of an agent: one that hears, and one that the site looks with. There is no outcome if
 /// memory was refused.
-fn play_with<A: AgentName, R: Wait>(
+fn play_with<A: AgentName, R: Wait + Files + AllocGlobal + Clone + Drop>(
     rt: &R,
     alloc: Global,
     passes: Vec<Pass<'_, A>>,
@@ -166,19 +167,21 @@ fn play_with<A: AgentName, R: Wait>(
     };
     let stop = AtomicBool::new(false);
     let basis = SiteBasis {
+        rt,
         alloc,
         clock: &clock,
         counters: &counters,
         config,
         stop: &stop,
         leave: true,
+        folder: None,
     };
     let mut site = NodeSite::new(passes.pop()?, basis).ok()?;
     Some(first_unmet(rt, alloc, &clock, &mut hearer, &mut site, steps))
 }
 
 /// Opens an agent of two places, which forgets a member a second after it is gone, and does the steps with it.
-fn play_in<A: AgentName, R: Wait>(
+fn play_in<A: AgentName, R: Wait + Files + AllocGlobal + Clone + Drop>(
     rt: &R,
     alloc: Global,
     book: UnnamedBook,
@@ -201,7 +204,11 @@ fn play_in<A: AgentName, R: Wait>(
 }
 
 /// Does the steps with an agent of its own.
-fn play<R: Wait>(rt: &R, alloc: Global, steps: &[Step<'_>]) -> Option<Option<usize>> {
+fn play<R: Wait + Files + AllocGlobal + Clone + Drop>(
+    rt: &R,
+    alloc: Global,
+    steps: &[Step<'_>],
+) -> Option<Option<usize>> {
     play_in::<Brand, R>(rt, alloc, UnnamedBook::new(), 2, steps)
 }
 

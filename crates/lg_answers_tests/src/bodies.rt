@@ -120,6 +120,8 @@ const TARGETS_AT_9100: &str = "[{\"targets\":[\"127.0.0.1:9100\"],\
 const TARGETS_OF_MEMBERS: &str = "[{\"targets\":[\"127.0.0.1:7102\"],\
     \"labels\":{\"__meta_lg_name\":\"b\",\"__meta_lg_address\":\"127.0.0.1:7102\"}}]";
 
+const UNRECORDED: &str = "{\"error\":\"this node doesn't record\"}";
+
 const METRICS: &[&str] = &[
     "# HELP lg_members Members known, this member included, by status.",
     "# TYPE lg_members gauge",
@@ -202,6 +204,8 @@ pub const ROWS: &[Row] = &[
         JSON,
         Whole("{\"error\":\"no member of this name is known\"}"),
     ),
+    (Usual, "/v1/explain/a", 404, JSON, Whole(UNRECORDED)),
+    (Ousted, "/v1/explain/d", 404, JSON, Whole(UNRECORDED)),
     (Usual, "/v1/health", 200, JSON, Whole(HEALTH)),
     (Ousted, "/v1/health", 503, JSON, Whole(OUSTED)),
     (Usual, "/v1/changes", 200, JSON, Whole(THREE)),

@@ -9,6 +9,8 @@ mod bodies;
 #[cfg(test)]
 mod counting;
 #[cfg(test)]
+mod explaining;
+#[cfg(test)]
 mod leaving;
 #[cfg(test)]
 mod metrics;

@@ -1,6 +1,6 @@
 //! Which route each target has, and why others have none.
 use crate::target::parts_of;
-use Route::{Changes, Config, Health, Member, Members, Metrics, Page, Targets};
+use Route::{Changes, Config, Explain, Health, Member, Members, Metrics, Page, Targets};
 use RouteFault::{BadChanges, BadPort, BadStatus, NoName, NoQuery, PostOnly, UnknownPath};
 use lg_answers::StatusKind::{Alive, Failed, Left, Suspect};
 use lg_answers::{MAX_WAIT_MS, Route, RouteFault, route_of, wait_of};
@@ -33,6 +33,15 @@ fn routes(rt: HostRuntime) {
         (
             "/v1/members/12345678901234567890123456789012",
             member(b"12345678901234567890123456789012"),
+        ),
+        ("/v1/explain/b", Explain(name(b"b"))),
+        (
+            "/v1/explain/B-2.example_x?",
+            Explain(name(b"B-2.example_x")),
+        ),
+        (
+            "/v1/explain/12345678901234567890123456789012",
+            Explain(name(b"12345678901234567890123456789012")),
         ),
         ("/v1/health", Health),
         ("/v1/changes", changes(0, 0)),
@@ -69,6 +78,9 @@ fn faults(rt: HostRuntime) {
         ("/v1", UnknownPath),
         ("/v1/members2", UnknownPath),
         ("/V1/health", UnknownPath),
+        ("/v1/explain", UnknownPath),
+        ("/v1/explains/b", UnknownPath),
+        ("/v1/Explain/b", UnknownPath),
         ("/metrics/", UnknownPath),
         ("*", UnknownPath),
         ("http://127.0.0.1:8946/", UnknownPath),
@@ -80,11 +92,19 @@ fn faults(rt: HostRuntime) {
         ("/v1/members/b%2D2", NoName),
         ("/v1/members/a/b", NoName),
         ("/v1/members/123456789012345678901234567890123", NoName),
+        ("/v1/explain/", NoName),
+        ("/v1/explain/?", NoName),
+        ("/v1/explain/b%2D2", NoName),
+        ("/v1/explain/a/b", NoName),
+        ("/v1/explain/123456789012345678901234567890123", NoName),
+        ("/v1/explain/a/b?all", NoName),
         ("/?a", NoQuery),
         ("/v1/health?status=alive", NoQuery),
         ("/v1/config?a=1", NoQuery),
         ("/metrics?a=1", NoQuery),
         ("/v1/members/b?status=alive", NoQuery),
+        ("/v1/explain/b?all", NoQuery),
+        ("/v1/explain/b?at=9012", NoQuery),
         ("/v1/members?status=dead", BadStatus),
         ("/v1/members?status=", BadStatus),
         ("/v1/members?status=alive&status=failed", BadStatus),
@@ -122,6 +142,8 @@ fn waits(rt: HostRuntime) {
         ("/v1/changes/?after=41", None),
         ("/v1/members?after=41", None),
         ("/v1/members", None),
+        ("/v1/explain/b", None),
+        ("/v1/explain/b?after=41&wait_ms=30000", None),
         ("/v1/leave", None),
         ("/", None),
     ];

@@ -224,7 +224,59 @@ const CASES: &[(&str, &[Step])] = &[
 #[test]
 fn shows_what_looks_find(rt: HostRuntime) {
     for (case, steps) in CASES {
-        let unmet = play(&rt, rt.alloc(), steps);
+        let unmet = play(&rt, rt.alloc(), None, steps);
+        assert!(rt; unmet == Some(None), "{case}: step {unmet:?}");
+    }
+}
+
+/// What is asked of a node about a recording, by its folder if it has one, and what comes.
+const EXPLAINED: &[(&str, Option<&str>, Step)] = &[
+    (
+        "it doesn't record",
+        None,
+        Gets(
+            "/v1/explain/c",
+            None,
+            HttpStatus::NotFound,
+            "{\"error\":\"this node doesn't record\"}",
+        ),
+    ),
+    (
+        "its folder isn't there",
+        Some("no/such/folder"),
+        Gets(
+            "/v1/explain/c",
+            None,
+            HttpStatus::Unavailable,
+            "{\"error\":\"the recording can't be read\"}",
+        ),
+    ),
+    (
+        "a query is refused before the folder is looked at",
+        Some("no/such/folder"),
+        Gets(
+            "/v1/explain/c",
+            Some("all"),
+            HttpStatus::BadRequest,
+            "{\"error\":\"this path takes no query\"}",
+        ),
+    ),
+    (
+        "what else it shows doesn't need the folder",
+        Some("no/such/folder"),
+        Gets(
+            "/v1/members/c",
+            None,
+            HttpStatus::NotFound,
+            "{\"error\":\"no member of this name is known\"}",
+        ),
+    ),
+];
+
+#[test]
+fn tells_of_recordings(rt: HostRuntime) {
+    for (case, folder, step) in EXPLAINED {
+        let unmet = play(&rt, rt.alloc(), *folder, &[*step]);
         assert!(rt; unmet == Some(None), "{case}: step {unmet:?}");
     }
 }

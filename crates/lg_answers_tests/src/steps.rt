@@ -18,6 +18,7 @@ use lg_testing::{alive, at, failed, letter, local, packet, ping, suspect};
 use lg_timing::{Config, Moment};
 use lg_view::UnnamedBook;
 use std::alloc::Global;
+use std::fs::Files;
 use std::marker::Brand;
 use std::str;
 use std::sync::Wait;
@@ -277,11 +278,12 @@ fn first_unmet<A: AgentName, S: Site, R: Wait>(
 
 /// Does the steps with two passes of an agent: one that hears, and one that the site looks with. There is no outcome if
 /// memory was refused.
-fn play_with<A: AgentName, R: Wait>(
+fn play_with<A: AgentName, R: Wait + Files + AllocGlobal + Clone + Drop>(
     rt: &R,
     alloc: Global,
     passes: Vec<Pass<'_, A>>,
     config: &Config,
+    folder: Option<&str>,
     steps: &[Step<'_>],
 ) -> Option<Option<usize>> {
     let mut passes = passes;
@@ -293,6 +295,7 @@ fn play_with<A: AgentName, R: Wait>(
     let counters = Counters::new(letter(b'b'), at(0));
     let stop = AtomicBool::new(false);
     let basis = SiteBasis {
+        rt,
         alloc,
         clock: &clock,
         counters: &counters,
@@ -307,6 +310,7 @@ fn play_with<A: AgentName, R: Wait>(
         },
         stop: &stop,
         leave: true,
+        folder,
     };
     let mut site = NodeSite::new(passes.pop()?, basis).ok()?;
     let doing = Doing {
@@ -319,11 +323,12 @@ fn play_with<A: AgentName, R: Wait>(
 }
 
 /// Opens an agent of two places, which forgets a member a second after it is gone, and does the steps with it.
-fn play_in<A: AgentName, R: Wait>(
+fn play_in<A: AgentName, R: Wait + Files + AllocGlobal + Clone + Drop>(
     rt: &R,
     alloc: Global,
     book: UnnamedBook,
     places: usize,
+    folder: Option<&str>,
     steps: &[Step<'_>],
 ) -> Option<Option<usize>>
     requires book { book.seen.book ≡ A.book }
@@ -334,14 +339,19 @@ fn play_in<A: AgentName, R: Wait>(
     config.check().ok()?;
     let mut agent = Agent::<A>::open(rt, alloc, book, at(0), config.copy(), places).ok()?;
     let outcome = match agent.passes(alloc) {
-        Ok(passes) => play_with(rt, alloc, passes, &config, steps),
+        Ok(passes) => play_with(rt, alloc, passes, &config, folder, steps),
         Err(_) => None,
     };
     agent.abandon(rt);
     outcome
 }
 
-/// Does the steps with an agent of its own.
-pub fn play<R: Wait>(rt: &R, alloc: Global, steps: &[Step<'_>]) -> Option<Option<usize>> {
-    play_in::<Brand, R>(rt, alloc, UnnamedBook::new(), 2, steps)
+/// Does the steps with an agent of its own, whose recording is in this folder if it has one.
+pub fn play<R: Wait + Files + AllocGlobal + Clone + Drop>(
+    rt: &R,
+    alloc: Global,
+    folder: Option<&str>,
+    steps: &[Step<'_>],
+) -> Option<Option<usize>> {
+    play_in::<Brand, R>(rt, alloc, UnnamedBook::new(), 2, folder, steps)
 }

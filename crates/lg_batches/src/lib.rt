@@ -4,8 +4,11 @@
 //! [`NodeRecord`] records a node by it: it is what the start of a node takes as its recorder.
 #![tactic(auto)]
 
+mod laws;
 mod node;
 mod source;
+mod standstill;
 
+pub use laws::standstills_add_up;
 pub use node::NodeRecord;
 pub use source::{EntrySource, Subject};

@@ -1,12 +1,13 @@
 //! The entries of a node, as a recorder writes them.
 //!
-//! Defined in: `specs/Meaning/Sources.antt`.
+//! Defined in: `specs/Meaning/Sources.antt`, `specs/Meaning/Standstills.antt`.
 //! Tested in: `lg_batches_tests/src/taken.rt`.
 ghost use Rattle.std.specs.Prelude.{◌≡◌, IfOk};
 ghost use Rattle.lg_agent.specs.Meaning.Values.{nothing_cut_off};
 ghost use Rattle.lg_heads.specs.Meaning.Heads.{maybe_before, head_value};
 ghost use Rattle.lg_batches.specs.Meaning.Sources.{head_of_cut, known_before};
 
+use crate::standstill::Standstill;
 use lg_agent::{AgentName, CutOff, Pass};
 use lg_clock::Clock;
 use lg_detector::Detector;
@@ -42,6 +43,8 @@ pub struct EntrySource<'n, R, C> {
     moment: Moment,
     /// The wall time then, in milliseconds since the beginning of 1970 in UTC.
     wall_ms: u64,
+    /// For how long the clock stood still by then.
+    standstill: Standstill,
 }
 
 /// The wall time in milliseconds since the beginning of 1970 in UTC, or 0 if it can't be read. No contract says what a
@@ -90,6 +93,7 @@ impl<'n, R: rt::Clock, C: Clock> EntrySource<'n, R, C> {
             cut: CutOff::new(alloc),
             moment: clock.now(),
             wall_ms: wall_time(rt),
+            standstill: Standstill::new(),
         }
     }
 
@@ -123,7 +127,7 @@ impl<'n, R: rt::Clock, C: Clock> Batch for EntrySource<'n, R, C> {
       config = s.subject.config.now;
       text = s.subject.text.now;
       program = s.subject.program.now;
-    }) s.wall_ms s.moment s.cut };
+    }) s.wall_ms s.moment s.standstill.since_ms s.cut };
 
     fn first(&self) -> u64 {
         self.cut.base()
@@ -143,19 +147,35 @@ impl<'n, R: rt::Clock, C: Clock> Batch for EntrySource<'n, R, C> {
     fn put_entry(&self, index: usize, text: &mut Vec<u8>) -> Result<(), AllocError> {
         let entry = &self.cut.entries()[index];
         let seat = entry.seat().min(MAX_SEAT);
+        let stood_still_ms = if index == 0 {
+            self.standstill.since_ms
+        } else {
+            0
+        };
         let mut buffers = EntryBuffers::new(self.alloc);
-        put_entry(seat, &entry.event(), &entry.reply(), &mut buffers, text)
+        put_entry(
+            seat,
+            &entry.event(),
+            &entry.reply(),
+            stood_still_ms,
+            &mut buffers,
+            text,
+        )
     }
 }
 
 impl<'n, 'p, A: AgentName, R: Wait + rt::Clock, C: Clock> BatchSource<Pass<'p, A>>
     for EntrySource<'n, R, C> {
     ghost use Rattle.lg_turns.specs.Meaning.Recorders.{OnlyRotated};
+    ghost use Rattle.lg_batches.specs.Meaning.Sources.{IsTaking};
     ghost use Rattle.lg_batches.specs.Support.SourceLaws.{rotated_none, rotated_twice};
 
     ghost took = { OnlyRotated };
 
-    /// It takes them by a rotation, and notes when. The only reason that it can't is refused memory.
+    ghost taking = { IsTaking A.places };
+
+    /// It takes them by a rotation, and notes when, and for how long the clock stood still. The only reason that it
+    /// can't is refused memory.
     fn take(&mut self, pass: &mut Pass<'p, A>) -> bool {
         if pass
             .rotate_into(self.rt, self.alloc, &mut self.cut)
@@ -165,6 +185,8 @@ impl<'n, 'p, A: AgentName, R: Wait + rt::Clock, C: Clock> BatchSource<Pass<'p, A
         }
         self.moment = self.clock.now();
         self.wall_ms = wall_time(self.rt);
+        let entries = self.cut.entries().len();
+        self.standstill = self.standstill.behind(self.clock.stood_still(), entries);
         true
     }
 

@@ -17,15 +17,19 @@ use std::alloc::Global;
 use std::marker::Brand;
 use std::rt;
 use std::sync::Wait;
+use std::sync::atomic::AtomicU64;
+use std::sync::atomic::Ordering::SeqCst;
 
 /// The bytes of a configuration file, and the version of a program.
 const TEXT: &[u8] = b"name = \"b\"\n";
 
 const PROGRAM: &[u8] = b"0.9.0";
 
-/// A clock at which it is always 7.
-#[derive(Clone, Copy, Debug)]
-struct Seven;
+/// A clock at which it is always 7, and which has left out as many milliseconds as it is told.
+#[derive(Drop)]
+struct Seven {
+    left_out_ms: AtomicU64,
+}
 
 impl Clock for Seven {
     fn now(&self) -> Moment {
@@ -33,18 +37,26 @@ impl Clock for Seven {
     }
 
     fn pause(&self, _ms: u64) {}
+
+    fn stood_still(&self) -> u64 {
+        self.left_out_ms.load(SeqCst)
+    }
 }
 
-/// What a file says before its entries, and what each entry is: its seat, its moment, and how many members it answers.
+/// What is told of an entry: its seat, its moment, how many members it answers, and for how many milliseconds the clock
+/// stood still.
+type EntryTold = (usize, u64, u64, u64);
+
+/// What a file says before its entries, and what each entry is.
 #[derive(Clone, Copy, Debug, PartialEq, Eq)]
 struct Told {
     first: u64,
     known: Option<(Standing, u64)>,
-    entries: [Option<(usize, u64, u64)>; 3],
+    entries: [Option<EntryTold>; 3],
 }
 
-/// The seat of an entry, its moment, and how many members it answers if it is a question for the health score.
-fn entry_told(recorded: &Recorded) -> (usize, u64, u64) {
+/// What is told of an entry. It answers members if it is a question for the health score.
+fn entry_told(recorded: &Recorded) -> EntryTold {
     let moment = match &recorded.event {
         Event::Open { now, .. } => now.milliseconds(),
         Event::Health { now } => now.milliseconds(),
@@ -54,7 +66,7 @@ fn entry_told(recorded: &Recorded) -> (usize, u64, u64) {
         Some(Answer::Health { members, .. }) => *members,
         _ => 0,
     };
-    (recorded.seat, moment, members)
+    (recorded.seat, moment, members, recorded.stood_still_ms)
 }
 
 /// What was known before, if it is of a table with b alone.
@@ -104,30 +116,40 @@ fn told_in(alloc: Global, bytes: &[u8]) -> Option<Told> {
     Some(told)
 }
 
-/// Asks twice for the health score and takes that; asks once more and takes that; and takes what is there then.
+/// Asks twice for the health score and takes that; asks once more and takes that; takes what is there then; and asks a
+/// last time and takes that. Before each of these the clock has left out more.
 fn taken<A: AgentName, R: Wait + rt::Clock>(
     rt: &R,
     alloc: Global,
     config: &Config,
     pass: &mut Pass<'_, A>,
-) -> Option<[Told; 3]> {
+) -> Option<[Told; 4]> {
     let subject = Subject {
         config,
         text: TEXT,
         program: PROGRAM,
     };
-    let clock = Seven;
+    let clock = Seven {
+        left_out_ms: AtomicU64::new(0),
+    };
     let mut source = EntrySource::new(rt, alloc, &clock, subject);
     pass.health(rt, alloc, at(1)).ok()?;
     pass.health(rt, alloc, at(2)).ok()?;
+    clock.left_out_ms.store(100, SeqCst);
     source.take(pass);
     let first = told_in(alloc, file_of(alloc, &source)?.as_slice())?;
     pass.health(rt, alloc, at(3)).ok()?;
+    clock.left_out_ms.store(250, SeqCst);
     source.take(pass);
     let second = told_in(alloc, file_of(alloc, &source)?.as_slice())?;
+    clock.left_out_ms.store(300, SeqCst);
     source.take(pass);
     let third = told_in(alloc, file_of(alloc, &source)?.as_slice())?;
-    Some([first, second, third])
+    pass.health(rt, alloc, at(4)).ok()?;
+    clock.left_out_ms.store(330, SeqCst);
+    source.take(pass);
+    let fourth = told_in(alloc, file_of(alloc, &source)?.as_slice())?;
+    Some([first, second, third, fourth])
 }
 
 /// Opens an agent of one place, and has its pass taken from.
@@ -136,7 +158,7 @@ fn taken_of<A: AgentName, R: Wait + rt::Clock>(
     alloc: Global,
     book: UnnamedBook,
     places: usize,
-) -> Option<[Told; 3]>
+) -> Option<[Told; 4]>
     requires book { book.seen.book ≡ A.book }
     requires places { (places ≡ A.places) × (places ≡ 1) }
 {
@@ -155,7 +177,9 @@ fn taken_of<A: AgentName, R: Wait + rt::Clock>(
     told
 }
 
-/// Files of three batches: the second and the third begin behind entries, and say what was known then.
+/// Files of four batches: those behind the first begin behind entries, and say what was known then. The first entry of
+/// each has for how long the clock stood still since the batch before, and that of the fourth since the second, as the
+/// third has no entries.
 #[test]
 fn batches_are_read_back(rt: HostRuntime) {
     let told = taken_of::<Brand, _>(&rt, rt.alloc(), UnnamedBook::new(), 1);
@@ -168,17 +192,22 @@ fn batches_are_read_back(rt: HostRuntime) {
         Told {
             first: 0,
             known: None,
-            entries: [Some((0, 0, 0)), Some((1, 1, 1)), Some((1, 2, 1))],
+            entries: [Some((0, 0, 0, 100)), Some((1, 1, 1, 0)), Some((1, 2, 1, 0))],
         },
         Told {
             first: 3,
             known: Some((fresh, 1)),
-            entries: [Some((1, 3, 1)), None, None],
+            entries: [Some((1, 3, 1, 150)), None, None],
         },
         Told {
             first: 4,
             known: Some((fresh, 1)),
             entries: [None, None, None],
+        },
+        Told {
+            first: 4,
+            known: Some((fresh, 1)),
+            entries: [Some((1, 4, 1, 80)), None, None],
         },
     ];
     assert_eq!(rt; told, Some(want));

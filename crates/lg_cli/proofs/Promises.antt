@@ -654,17 +654,17 @@ module _ (R W : Type 0) (before after : Streams R W) (line : List (List ℕ)) (s
   -- a member is explained, unless memory was refused for reading the line
   pub explained : line_faults line ≡ [] → IfExplain (asked line) (λ value.
       ExplainsPart before.writer after.writer before.held after.held before.reported after.reported
-      (explained_of value.folder value.name value.at value.all) (form_of value.entries value.json value.html) status
+      (explained_of value.folder value.name value.at value.all) value.html (form_of value.entries value.json) status
       ⊎ ((status ≡ 1) × FailsBy before.reported after.reported before.writer after.writer))
   explained none = elim (runs.taken none) [
     | inl run ↦ of_explain R W before after status (λ value.
         ExplainsPart before.writer after.writer before.held after.held before.reported after.reported
-        (explained_of value.folder value.name value.at value.all) (form_of value.entries value.json value.html) status
+        (explained_of value.folder value.name value.at value.all) value.html (form_of value.entries value.json) status
         ⊎ ((status ≡ 1) × FailsBy before.reported after.reported before.writer after.writer)) (asked line) run
         (λ value r. inl r.explained)
     | inr lacks ↦ all_explain (λ value.
         ExplainsPart before.writer after.writer before.held after.held before.reported after.reported
-        (explained_of value.folder value.name value.at value.all) (form_of value.entries value.json value.html) status
+        (explained_of value.folder value.name value.at value.all) value.html (form_of value.entries value.json) status
         ⊎ ((status ≡ 1) × FailsBy before.reported after.reported before.writer after.writer)) (asked line)
         (λ value. inr (lacks.1.is, lacks_fails R W before after status lacks))
   ]

@@ -4,25 +4,24 @@
 //! `lg_explain_run/specs/Meaning/Running.antt`.
 //! Tested in: `cases/explain.case`, `cases/recordings`.
 ghost use Rattle.std.specs.Prelude.{◌≡◌};
+ghost use Rattle.std.specs.Option.{option_map};
 ghost use Rattle.lg_commands.specs.Meaning.Explaining.{explained_of};
 ghost use Rattle.lg_cli.specs.Meaning.Running.{ExplainsPart, form_of};
 
 use lg_command_line::ExplainWords;
 use lg_commands::part_to_explain;
-use lg_explain_run::{AccountForm, MemberQuestion, explain_recording};
+use lg_explain_run::{AccountForm, MachineFiles, MemberQuestion, explain_page, explain_recording};
 use lg_text::FaultStream;
 use std::alloc::Global;
 use std::io::Write;
 use std::rt::Files;
 
-/// How the accounts are written. JSON has the numbers of the entries in any case, and a page has none.
-fn form_of(entries: bool, json: bool, html: bool) -> AccountForm
-    ensures { result ≡ form_of entries json html }
+/// How the accounts are written as lines. JSON has the numbers of the entries in any case.
+fn form_of(entries: bool, json: bool) -> AccountForm
+    ensures { result ≡ form_of entries json }
 {
     if json {
         AccountForm::Json
-    } else if html {
-        AccountForm::Page
     } else if entries {
         AccountForm::NumberedLines
     } else {
@@ -31,7 +30,8 @@ fn form_of(entries: bool, json: bool, html: bool) -> AccountForm
 }
 
 /// Tells about the member that the command asks for from its recording, and gives the exit status: that of
-/// [`part_to_explain`] if a text is bad, and else that of [`explain_recording`].
+/// [`part_to_explain`] if a text is bad, else that of [`explain_page`] if a file for a page is named, and else that of
+/// [`explain_recording`]. A page has no use for the forms of lines.
 pub(crate) fn explain_part<M, W, F>(
     rt: &M,
     alloc: Global,
@@ -46,7 +46,7 @@ where
     ensures { ExplainsPart writer.old writer.new (W.contents writer.old) (W.contents writer.new)
         (F.reported faults.old) (F.reported faults.new)
         (explained_of words.now.folder.now words.now.name.now words.now.at words.now.all)
-        (form_of words.now.entries words.now.json words.now.html) result }
+        (option_map (λ path. path.now) words.now.html) (form_of words.now.entries words.now.json) result }
 {
     let part = match part_to_explain(words.folder, words.name, words.at, words.all, faults) {
         Ok(part) => part,
@@ -57,14 +57,20 @@ where
         at: part.at,
         all: part.all,
     };
-    let form = form_of(words.entries, words.json, words.html);
-    explain_recording(
-        rt,
-        alloc,
-        part.folder.as_str(),
-        &question,
-        form,
-        writer,
-        faults,
-    )
+    let folder = part.folder.as_str();
+    match words.html {
+        Some(path) => explain_page(
+            rt,
+            alloc,
+            folder,
+            &question,
+            path,
+            &mut MachineFiles::new(rt),
+            faults,
+        ),
+        None => {
+            let form = form_of(words.entries, words.json);
+            explain_recording(rt, alloc, folder, &question, form, writer, faults)
+        }
+    }
 }

@@ -47,7 +47,8 @@ use std::{io, rt};
 /// [`run_bytes`]. If its file gives no bytes, or its stop flag can't be had, it isn't run, and has the status of
 /// [`begin_node`]. `check` has those of [`check_source`]. `replay` and `explain` list a folder and read files of it,
 /// and have the statuses of [`replay_recording`](lg_replay_run::replay_recording) and
-/// [`explain_recording`](lg_explain_run::explain_recording). `version` reads the end of the program's own file
+/// [`explain_recording`](lg_explain_run::explain_recording). `explain --html` writes a file in place of the output, and
+/// has those of [`explain_page`](lg_explain_run::explain_page). `version` reads the end of the program's own file
 /// ([`tell_version`]). The other four ask a running node, with the statuses of [`tell_answer`](lg_client::tell_answer),
 /// [`watch_changes`](lg_client::watch_changes) and [`leave_node`]. The statuses of all other command lines are:
 ///
@@ -80,6 +81,8 @@ where
         + FaultStreams
         + RecordFolders,
     M: Net<Listener = TcpListener, Stream = TcpStream> + Copy + Send + Sync + 'static,
+    M::File: Send,
+    M::Dir: Send,
     S: AsStr,
     I: Read + Send + Drop + 'static,
     O: Write + Send + Drop + 'static,

@@ -2,6 +2,7 @@
 pub mod Apps
 pub mod Commands
 pub mod Examples
+pub mod ExplainExamples
 pub mod KeyExamples
 pub mod KeyOptions
 pub mod Leaving

@@ -44,8 +44,9 @@ pub struct ExplainWords<'a> {
     pub entries: bool,
     /// Whether the accounts are written as JSON, in place of lines.
     pub json: bool,
-    /// Whether the accounts are written as a page of HTML, in place of lines.
-    pub html: bool,
+    /// The path of the file into which the accounts are written as a page of HTML, in place of lines, if one is named.
+    /// It may be that no such file can be made.
+    pub html: Option<&'a str>,
 }
 
 /// What a command line asks for.

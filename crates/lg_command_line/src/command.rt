@@ -245,8 +245,8 @@ const COMMANDS: [CommandRow<'static>; 14] = [
             },
             OptionRow {
                 id: "html",
-                takes: Takes::Nothing,
-                help: "Writes a page for a browser in place of lines",
+                takes: Takes::OptionalText("FILE"),
+                help: "The file into which a page for a browser is written, in place of lines",
             },
         ],
         keys: &[],

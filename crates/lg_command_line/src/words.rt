@@ -241,7 +241,7 @@ fn explain_in<'a>(found: &ArgMatches<'a>) -> Asked<'a>
         all: flag_in(found, "all"),
         entries: flag_in(found, "entries"),
         json: flag_in(found, "json"),
-        html: flag_in(found, "html"),
+        html: text_given(found, "html"),
     };
     Asked::Explain { words }
 }

@@ -57,6 +57,15 @@ impl FilePath {
         Some(FilePath { bytes })
     }
 
+    /// An equal path. Allocates nothing.
+    pub fn copy(&self) -> FilePath
+        ensures { result ≡ self.now }
+    {
+        let mut bytes = ArrayVec::new();
+        bytes.try_extend_from_slice(&self.bytes).unwrap();
+        FilePath { bytes }
+    }
+
     /// The text of the path.
     pub fn as_str(&self) -> &str
         ensures { result.now ≡ self.now }

@@ -143,27 +143,29 @@ impl Detector {
     pub(crate) fn copy(&self, alloc: Global) -> Result<Detector, NoMemory>
         ensures { IfOk result (λ detector. detector ≡ self.now) }
     {
+        let mut copy = Detector::blank(alloc)?;
+        self.copy_into(&mut copy);
+        Ok(copy)
+    }
+
+    /// Overwrites another detector by this one, part by part. Allocates nothing.
+    pub(crate) fn copy_into(&self, into: &mut Detector)
+        ensures { into.new ≡ self.now }
+    {
         let parts = &self.parts;
-        let round = match &parts.round {
+        into.parts.events = parts.events;
+        into.parts.moment = parts.moment;
+        into.parts.score = parts.score;
+        into.parts.timers = parts.timers.copy();
+        into.parts.order = parts.order.copy();
+        into.parts.number = parts.number;
+        into.parts.round = match &parts.round {
             Some(round) => Some(round.copy()),
             None => None,
         };
-        let parts = Box::new(
-            alloc,
-            Parts {
-                events: parts.events,
-                moment: parts.moment,
-                score: parts.score,
-                timers: parts.timers.copy(),
-                order: parts.order.copy(),
-                number: parts.number,
-                round,
-                gossip: parts.gossip,
-                relays: parts.relays.copy(),
-                membership: parts.membership.copy(),
-            },
-        )?;
-        Ok(Detector { parts })
+        into.parts.gossip = parts.gossip;
+        into.parts.relays = parts.relays.copy();
+        parts.membership.copy_into(&mut into.parts.membership);
     }
 
     /// Whether an event can come next. The first event has to be an opening with a good configuration, and no later

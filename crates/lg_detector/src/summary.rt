@@ -42,6 +42,16 @@ impl Detector {
         })
     }
 
+    /// Overwrites a summary by one of all the events that have come to this detector. Allocates nothing, and always
+    /// succeeds.
+    pub fn summary_into(&self, summary: &mut Summary)
+        ensures state { summary.new ≡ self.now }
+        // After a list of events, it is a summary of that list.
+        ensures list { (f : List Happened) → self.now ≡ state_after f → IsSummary summary.new f }
+    {
+        self.copy_into(&mut summary.detector);
+    }
+
     /// A detector in the state that the summary has. If the summary is of a list of events, that is the state after the
     /// list. Allocates one box for it; the only error is that memory was refused.
     pub fn resume(alloc: Global, summary: &Summary) -> Result<Detector, NoMemory>

@@ -2,7 +2,7 @@
 use Rattle.std.proofs.Common.{◌≡◌, ℕ, List, [], ◌∷◌, ◌++◌, Result, Ok, Err, refl, sym, ap, subst, ◌∙◌}
 use Rattle.lg_fields.specs.declared.fault.FieldFault.{FieldFault}
 use Rattle.lg_heads.specs.Meaning.Heads.{HeadValue}
-use Rattle.lg_history.specs.Meaning.History.{Entry}
+use Rattle.lg_recording.specs.Meaning.Values.{RecordedEntry}
 use Rattle.lg_recording.specs.Meaning.Listing.{ListedEntries, entries_scan}
 use Rattle.lg_replay.specs.Meaning.Files.{FileRead, read_behind}
 use Rattle.lg_replay.specs.Meaning.Heads.{file_head_scan}
@@ -21,19 +21,19 @@ use Rattle.lg_explain.specs.declared.question.MemberQuestion.{MemberQuestion}
 -- ---- entries
 
 -- It has read so much of the entries that the ones that are left lead to where all of them do.
-pub record IsBetween (now : Explainer) (name : List ℕ) (head : HeadValue) (r : FilesRead) (all left : List Entry) : Type 0 where
+pub record IsBetween (now : Explainer) (name : List ℕ) (head : HeadValue) (r : FilesRead) (all left : List RecordedEntry) : Type 0 where
   pub read : FilesRead
   pub has : HasReached now read
   pub leads : entries_read name head read left ≡ entries_read name head r all
 
-pub record IsAmid (old now : Explainer) (head : HeadValue) (all left : List Entry) : Type 0 where
+pub record IsAmid (old now : Explainer) (head : HeadValue) (all left : List RecordedEntry) : Type 0 where
   pub question : now.question ≡ old.question
   pub reached : (r : FilesRead) → HasReached old r → IsBetween now old.question.name head r all left
 
-pub amid_none : (e : Explainer) (head : HeadValue) (all : List Entry) → IsAmid e e head all all
+pub amid_none : (e : Explainer) (head : HeadValue) (all : List RecordedEntry) → IsAmid e e head all all
 amid_none e head all = record { question = refl; reached = λ r has. record { read = r; has = has; leads = refl } }
 
-pub amid_on : (old now next : Explainer) (head : HeadValue) (all left rest : List Entry) (x : Entry) → IsAmid old now head all left → left ≡ x ∷ rest
+pub amid_on : (old now next : Explainer) (head : HeadValue) (all left rest : List RecordedEntry) (x : RecordedEntry) → IsAmid old now head all left → left ≡ x ∷ rest
     → ReadsOn now next (λ r. entry_read now.question.name head r x) → IsAmid old next head all rest
 amid_on old now next head all left rest x amid is went = record {
   question = went.question ∙ amid.question;
@@ -44,18 +44,18 @@ amid_on old now next head all left rest x amid is went = record {
         has =
             subst (λ (q : MemberQuestion). HasReached next (entry_read q.name head between.read x)) amid.question
             (went.reached between.read between.has);
-        leads = sym (ap (λ (xs : List Entry). entries_read old.question.name head between.read xs) is) ∙ between.leads;
+        leads = sym (ap (λ (xs : List RecordedEntry). entries_read old.question.name head between.read xs) is) ∙ between.leads;
       };
 }
 
-pub amid_all : (old now : Explainer) (head : HeadValue) (all left : List Entry) → IsAmid old now head all left → left ≡ []
+pub amid_all : (old now : Explainer) (head : HeadValue) (all left : List RecordedEntry) → IsAmid old now head all left → left ≡ []
     → ReadsOn old now (λ r. entries_read old.question.name head r all)
 amid_all old now head all left amid is = record {
   question = amid.question;
   reached = λ r has.
       let between = amid.reached r has in
       subst (λ (read : FilesRead). HasReached now read)
-      (sym (ap (λ (xs : List Entry). entries_read old.question.name head between.read xs) is) ∙ between.leads) between.has;
+      (sym (ap (λ (xs : List RecordedEntry). entries_read old.question.name head between.read xs) is) ∙ between.leads) between.has;
 }
 
 -- the entries that are listed

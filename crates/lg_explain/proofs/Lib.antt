@@ -5,3 +5,4 @@ pub mod InsightLaws
 pub mod PositionLaws
 pub mod RoundLaws
 pub mod SourceLaws
+pub mod StandstillLaws

@@ -1,16 +1,16 @@
 -- How a position goes on: by a file's head, and by an entry.
-use Rattle.std.proofs.Common.{◌≡◌, ℕ, ◌+◌, ◌≤◌, Bool, true, false, List, [], ◌++◌, Option, Some, None, refl, sym, ap, subst, ◌∙◌, arith, max}
+use Rattle.std.proofs.Common.{◌≡◌, ℕ, ◌+◌, ◌≤◌, Bool, true, false, List, [], ◌∷◌, ◌++◌, Option, Some, None, refl, sym, ap, subst, ◌∙◌, arith, max}
 use Rattle.std.specs.Prelude.{if◌then◌else◌, ◌==◌, ◌||◌, is_some}
 use Rattle.lg_accounts.specs.declared.step.NoteStep.{NoteStep}
 use Rattle.lg_detector.specs.declared.event.Event.{Event}
 use Rattle.lg_heads.specs.Meaning.Heads.{HeadValue}
-use Rattle.lg_history.specs.Meaning.History.{Entry}
+use Rattle.lg_recording.specs.Meaning.Values.{RecordedEntry}
 use Rattle.lg_rules.specs.declared.claim.Claim.{Claim}
 use Rattle.lg_notes.specs.Meaning.About.{changes_verdict, teller_of}
 use Rattle.lg_notes.specs.Meaning.Steps.{steps_of}
 use Rattle.lg_notes.specs.Meaning.Watching.{is_calm, watch_behind}
 use Rattle.lg_notes.specs.declared.insights.Insight.{Insight}
-use Rattle.lg_notes.specs.declared.insights.RecentRounds.{RecentRounds}
+use Rattle.lg_explain.specs.declared.rounds.RecentRounds.{RecentRounds}
 use Rattle.lg_notes.specs.declared.subject.NoteSubject.{NoteSubject}
 use Rattle.lg_notes.specs.declared.watch.Watch.{Watch}
 use Rattle.lg_replay.specs.Meaning.Lives.{Life, life_from, past_to, past_with}
@@ -19,11 +19,17 @@ use Rattle.lg_replay.specs.Support.Known.{HoldsPast, IsKnown}
 use Rattle.lg_replay.specs.declared.known.Known.{Known}
 use Rattle.lg_explain.specs.Meaning.Places.{FilesRead, PlacedEntry, begun_from, calm_watch, entry_read, head_read, past_from, placed, note_subject, wall_of, watch_of_head}
 use Rattle.lg_explain.specs.Meaning.Rounds.{end_of_round, recent_rounds}
+use Rattle.lg_explain.specs.Meaning.Standstills.{minute_of, recent_stood, stood_at, stood_in_minute}
+use Rattle.lg_explain.specs.Support.Standstills.{KeepsStood}
+use Rattle.lg_explain.specs.declared.standstills.StoodStill.{StoodStill}
+use Rattle.lg_notes.specs.declared.insights.MinuteBefore.{MinuteBefore}
+use Rattle.lg_explain.proofs.StandstillLaws.{stood_of_kept}
+use Rattle.std.specs.List.{sum_by}
 use Rattle.lg_explain.specs.Meaning.Tellings.{insights_at, note_of, told_behind}
 use Rattle.lg_accounts.specs.Meaning.Values.{NoteValue}
 use Rattle.lg_explain.specs.Meaning.Told.{EntryTold}
 use Rattle.lg_explain.specs.Support.Ends.{KeepsEnds}
-use Rattle.lg_explain.specs.Support.Positions.{IsAt, IsBegun, IsHere, KeepsRest, HasPassed, ends_next, greatest_next, watch_next}
+use Rattle.lg_explain.specs.Support.Positions.{IsAt, IsBegun, IsHere, KeepsRest, HasPassed, ends_next, greatest_next, stood_next, watch_next}
 use Rattle.lg_explain.specs.declared.position.Position.{Position}
 use Rattle.lg_explain.specs.declared.rounds.RoundEnd.{RoundEnd}
 
@@ -49,6 +55,7 @@ here_begun p watch begun entries there is =
       watch = there.watch;
       greatest = there.greatest;
       ends = λ now le. ap (λ (xs : List RoundEnd). recent_rounds now xs) there.ends;
+      stood = λ now le. ap (λ (xs : List StoodStill). sum_by (recent_stood now) xs) there.stood;
     })
 
 -- a life begins
@@ -82,7 +89,7 @@ pub entered : (p : Position) (k : Known) (number : ℕ) (name : List ℕ) (head 
 entered p k number name head r here holds counted = record {
   past = holds;
   number = counted;
-  here = record { begins = here.begins; watch = here.watch; greatest = here.greatest; ends = here.ends };
+  here = record { begins = here.begins; watch = here.watch; greatest = here.greatest; ends = here.ends; stood = here.stood };
 }
 
 -- ---- an entry
@@ -97,85 +104,100 @@ told_by begins is_verdict is_known note = record { begins = begins; is_verdict =
 abbrev some_known : Type 0
 some_known = Option (Insight × Insight × List Claim)
 
+-- what is in the minute before an entry
+abbrev pub minute_at : (greatest stood_still_ms : ℕ) → List RoundEnd → List StoodStill → MinuteBefore
+minute_at greatest stood_still_ms ends stood = minute_of (recent_rounds greatest ends) (stood_in_minute greatest (stood_at greatest stood_still_ms ∷ stood))
+
 -- the steps of an entry, by what is kept
-steps_are : (p : Position) (name : List ℕ) (head : HeadValue) (r : FilesRead) (x : Entry) (subject : NoteSubject) (greatest : ℕ) (known : some_known) (recent : RecentRounds)
-    → subject ≡ note_subject name head → IsAt p r → greatest ≡ max p.greatest (moment_of_event x.event)
-    → known ≡ insights_at subject.name r.past x.event → recent ≡ recent_rounds greatest p.ends.items
-    → steps_of subject p.watch x.event x.reply known recent
-    ≡ steps_of (note_subject name head) (watch_next r.begun r.entries) x.event x.reply (insights_at name r.past x.event)
-    (recent_rounds (max (greatest_next r.begun r.entries) (moment_of_event x.event)) (ends_next r.begun r.entries))
-steps_are p name head r x subject greatest known recent is at later insights rounds =
+steps_are : (p : Position) (name : List ℕ) (head : HeadValue) (r : FilesRead) (x : RecordedEntry) (subject : NoteSubject) (greatest : ℕ) (known : some_known) (minute : MinuteBefore)
+    → subject ≡ note_subject name head → IsAt p r → greatest ≡ max p.greatest (moment_of_event x.entry.event)
+    → known ≡ insights_at subject.name r.past x.entry.event → minute ≡ minute_at greatest x.stood_still_ms p.ends.items p.stood.items
+    → steps_of subject p.watch x.entry.event x.entry.reply known minute
+    ≡ steps_of (note_subject name head) (watch_next r.begun r.entries) x.entry.event x.entry.reply (insights_at name r.past x.entry.event)
+    (minute_at (max (greatest_next r.begun r.entries) (moment_of_event x.entry.event)) x.stood_still_ms (ends_next r.begun r.entries) (stood_next r.begun r.entries))
+steps_are p name head r x subject greatest known minute is at later insights has =
     let le : p.greatest ≤ greatest = omega (arith, later) in
     let ends = ends_next r.begun r.entries in
-    let moment = moment_of_event x.event in
-    let counted : recent ≡ recent_rounds (max (greatest_next r.begun r.entries) moment) ends =
-    rounds ∙ at.here.ends greatest le ∙ ap (λ (n : ℕ). recent_rounds n ends) (later ∙ ap (λ (n : ℕ). max n moment) at.here.greatest) in
-    let said : known ≡ insights_at name r.past x.event = insights ∙ ap (λ (s : NoteSubject). insights_at s.name r.past x.event) is in
-    ap (λ (s : NoteSubject). steps_of s p.watch x.event x.reply known recent) is
-    ∙ ap (λ (w : Watch). steps_of (note_subject name head) w x.event x.reply known recent) at.here.watch
-    ∙ ap (λ (k : some_known). steps_of (note_subject name head) (watch_next r.begun r.entries) x.event x.reply k recent) said
-    ∙ ap (λ (n : RecentRounds). steps_of (note_subject name head) (watch_next r.begun r.entries) x.event x.reply (insights_at name r.past x.event) n) counted
+    let stood = stood_next r.begun r.entries in
+    let moment = moment_of_event x.entry.event in
+    let counted : minute ≡ minute_at (max (greatest_next r.begun r.entries) moment) x.stood_still_ms ends stood =
+    has
+    ∙ ap (λ (n : RecentRounds). minute_of n (stood_in_minute greatest (stood_at greatest x.stood_still_ms ∷ p.stood.items))) (at.here.ends greatest le)
+    ∙ ap (λ (n : ℕ). minute_of (recent_rounds greatest ends) n) (stood_of_kept greatest x.stood_still_ms p.stood.items stood (at.here.stood greatest le))
+    ∙ ap (λ (n : ℕ). minute_at n x.stood_still_ms ends stood) (later ∙ ap (λ (n : ℕ). max n moment) at.here.greatest) in
+    let said : known ≡ insights_at name r.past x.entry.event = insights ∙ ap (λ (s : NoteSubject). insights_at s.name r.past x.entry.event) is in
+    ap (λ (s : NoteSubject). steps_of s p.watch x.entry.event x.entry.reply known minute) is
+    ∙ ap (λ (w : Watch). steps_of (note_subject name head) w x.entry.event x.entry.reply known minute) at.here.watch
+    ∙ ap (λ (k : some_known). steps_of (note_subject name head) (watch_next r.begun r.entries) x.entry.event x.entry.reply k minute) said
+    ∙ ap (λ (n : MinuteBefore). steps_of (note_subject name head) (watch_next r.begun r.entries) x.entry.event x.entry.reply (insights_at name r.past x.entry.event) n) counted
 
 -- its note
-pub noted : (p : Position) (name : List ℕ) (head : HeadValue) (r : FilesRead) (x : Entry) (subject : NoteSubject) (greatest moment wall : ℕ) (teller : Option (List ℕ))
-    (known : some_known) (recent : RecentRounds) (steps : List NoteStep)
-    → subject ≡ note_subject name head → IsAt p r → moment ≡ moment_of_event x.event → greatest ≡ max p.greatest moment → wall ≡ wall_of head moment
-    → teller ≡ teller_of subject x.event → known ≡ insights_at subject.name r.past x.event → recent ≡ recent_rounds greatest p.ends.items
-    → steps ≡ steps_of subject p.watch x.event x.reply known recent
+pub noted : (p : Position) (name : List ℕ) (head : HeadValue) (r : FilesRead) (x : RecordedEntry) (subject : NoteSubject) (moment wall : ℕ) (teller : Option (List ℕ))
+    (known : some_known) (minute : MinuteBefore) (steps : List NoteStep)
+    → subject ≡ note_subject name head → IsAt p r → moment ≡ moment_of_event x.entry.event → wall ≡ wall_of head moment
+    → teller ≡ teller_of subject x.entry.event → known ≡ insights_at subject.name r.past x.entry.event
+    → minute ≡ minute_at (max p.greatest moment) x.stood_still_ms p.ends.items p.stood.items
+    → steps ≡ steps_of subject p.watch x.entry.event x.entry.reply known minute
     → note_by p.number moment wall teller steps ≡ note_of (placed name head r x) r.entries
-noted p name head r x subject greatest moment wall teller known recent steps is at when later walled told insights rounds are =
+noted p name head r x subject moment wall teller known minute steps is at when walled told insights has are =
     ap (λ (n : ℕ). note_by n moment wall teller steps) at.number
     ∙ ap (λ (n : ℕ). note_by r.number n wall teller steps) when
-    ∙ ap (λ (n : ℕ). note_by r.number (moment_of_event x.event) n teller steps) (walled ∙ ap (λ (n : ℕ). wall_of head n) when)
-    ∙ ap (λ (t : Option (List ℕ)). note_by r.number (moment_of_event x.event) (wall_of head (moment_of_event x.event)) t steps)
-    (told ∙ ap (λ (s : NoteSubject). teller_of s x.event) is)
-    ∙ ap (λ (s : List NoteStep). note_by r.number (moment_of_event x.event) (wall_of head (moment_of_event x.event)) (teller_of (note_subject name head) x.event) s)
-    (are ∙ steps_are p name head r x subject greatest known recent is at (later ∙ ap (λ (n : ℕ). max p.greatest n) when) insights rounds)
+    ∙ ap (λ (n : ℕ). note_by r.number (moment_of_event x.entry.event) n teller steps) (walled ∙ ap (λ (n : ℕ). wall_of head n) when)
+    ∙ ap (λ (t : Option (List ℕ)). note_by r.number (moment_of_event x.entry.event) (wall_of head (moment_of_event x.entry.event)) t steps)
+    (told ∙ ap (λ (s : NoteSubject). teller_of s x.entry.event) is)
+    ∙ ap (λ (s : List NoteStep). note_by r.number (moment_of_event x.entry.event) (wall_of head (moment_of_event x.entry.event)) (teller_of (note_subject name head) x.entry.event) s)
+    (are ∙ steps_are p name head r x subject (max p.greatest (moment_of_event x.entry.event)) known minute is at refl insights (has ∙ ap (λ (n : ℕ). minute_at (max p.greatest n) x.stood_still_ms p.ends.items p.stood.items) when))
 
 -- what is known is what is there
 pub known_is : (k : Known) (past : Option (List Event)) → HoldsPast k past → k.is_known ≡ is_some past
 known_is k None holds = holds
 known_is k (Some f) holds = holds.known
 
-pub passed : (old mid new : Position) (name : List ℕ) (head : HeadValue) (r : FilesRead) (x : Entry) (subject : NoteSubject)
+pub passed : (old mid new : Position) (name : List ℕ) (head : HeadValue) (r : FilesRead) (x : RecordedEntry) (subject : NoteSubject)
     → subject ≡ note_subject name head → IsAt old r
-    → ((past : Option (List Event)) → HoldsPast old.known past → HoldsPast mid.known (past_with past x.event))
+    → ((past : Option (List Event)) → HoldsPast old.known past → HoldsPast mid.known (past_with past x.entry.event))
     → KeepsRest old mid → HasPassed mid new subject x → IsAt new (entry_read name head r x)
 passed old mid new name head r x subject is at happened keeps passes =
-    let moment = moment_of_event x.event in
+    let moment = moment_of_event x.entry.event in
     let before = greatest_next r.begun r.entries in
     let ends = ends_next r.begun r.entries in
+    let stood = stood_next r.begun r.entries in
     let greatest : new.greatest ≡ max before moment = passes.greatest ∙ ap (λ (n : ℕ). max n moment) (keeps.greatest ∙ at.here.greatest) in
     record {
-      past = subst (λ (k : Known). HoldsPast k (past_with r.past x.event)) (sym passes.known) (happened r.past at.past);
+      past = subst (λ (k : Known). HoldsPast k (past_with r.past x.entry.event)) (sym passes.known) (happened r.past at.past);
       number = passes.number ∙ ap (λ (n : ℕ). n + 1) (keeps.number ∙ at.number);
       here = record {
         begins = passes.begins;
         watch =
             passes.watch
-            ∙ ap (λ (s : NoteSubject). watch_behind s new.greatest mid.watch x.event x.reply) is
-            ∙ ap (λ (n : ℕ). watch_behind (note_subject name head) n mid.watch x.event x.reply) greatest
-            ∙ ap (λ (w : Watch). watch_behind (note_subject name head) (max before moment) w x.event x.reply) (keeps.watch ∙ at.here.watch);
+            ∙ ap (λ (s : NoteSubject). watch_behind s new.greatest mid.watch x.entry.event x.entry.reply) is
+            ∙ ap (λ (n : ℕ). watch_behind (note_subject name head) n mid.watch x.entry.event x.entry.reply) greatest
+            ∙ ap (λ (w : Watch). watch_behind (note_subject name head) (max before moment) w x.entry.event x.entry.reply) (keeps.watch ∙ at.here.watch);
         greatest = greatest;
         ends =
-            subst (λ (n : ℕ). KeepsEnds new.ends.items new.greatest (end_of_round n x.reply ++ ends)) greatest
+            subst (λ (n : ℕ). KeepsEnds new.ends.items new.greatest (end_of_round n x.entry.reply ++ ends)) greatest
             (passes.ends ends
             (subst (λ (n : ℕ). KeepsEnds mid.ends.items n ends) (sym keeps.greatest)
             (subst (λ (xs : List RoundEnd). KeepsEnds xs old.greatest ends) (sym keeps.ends) at.here.ends)));
+        stood =
+            subst (λ (n : ℕ). KeepsStood new.stood.items new.greatest (stood_at n x.stood_still_ms ∷ stood)) greatest
+            (passes.stood stood
+            (subst (λ (n : ℕ). KeepsStood mid.stood.items n stood) (sym keeps.greatest)
+            (subst (λ (xs : List StoodStill). KeepsStood xs old.greatest stood) (sym keeps.stood) at.here.stood)));
       };
     }
 
 -- what matters of an entry
-pub told_of : (old mid new : Position) (name : List ℕ) (head : HeadValue) (r : FilesRead) (x : Entry) (begins is_verdict : Bool) (note : NoteValue)
-    → IsAt old r → begins ≡ (old.begins || is_calm old.watch) → is_verdict ≡ changes_verdict name x.reply
-    → HoldsPast mid.known (past_with r.past x.event) → new.known ≡ mid.known → note ≡ note_of (placed name head r x) r.entries
+pub told_of : (old mid new : Position) (name : List ℕ) (head : HeadValue) (r : FilesRead) (x : RecordedEntry) (begins is_verdict : Bool) (note : NoteValue)
+    → IsAt old r → begins ≡ (old.begins || is_calm old.watch) → is_verdict ≡ changes_verdict name x.entry.reply
+    → HoldsPast mid.known (past_with r.past x.entry.event) → new.known ≡ mid.known → note ≡ note_of (placed name head r x) r.entries
     → told_by begins is_verdict new.known.is_known note ≡ told_behind (placed name head r x) r.entries
 told_of old mid new name head r x begins is_verdict note at begun verdict holds known is =
-    let there : new.known.is_known ≡ is_some (past_with r.past x.event) =
-    ap (λ (k : Known). k.is_known) known ∙ known_is mid.known (past_with r.past x.event) holds in
+    let there : new.known.is_known ≡ is_some (past_with r.past x.entry.event) =
+    ap (λ (k : Known). k.is_known) known ∙ known_is mid.known (past_with r.past x.entry.event) holds in
     let first : begins ≡ (is_some r.begun || is_calm (watch_next r.begun r.entries)) =
     begun ∙ ap (λ (b : Bool). b || is_calm old.watch) at.here.begins ∙ ap (λ (w : Watch). is_some r.begun || is_calm w) at.here.watch in
     ap (λ (b : Bool). told_by b is_verdict new.known.is_known note) first
     ∙ ap (λ (b : Bool). told_by (is_some r.begun || is_calm (watch_next r.begun r.entries)) b new.known.is_known note) verdict
-    ∙ ap (λ (b : Bool). told_by (is_some r.begun || is_calm (watch_next r.begun r.entries)) (changes_verdict name x.reply) b note) there
-    ∙ ap (λ (n : NoteValue). told_by (is_some r.begun || is_calm (watch_next r.begun r.entries)) (changes_verdict name x.reply) (is_some (past_with r.past x.event)) n) is
+    ∙ ap (λ (b : Bool). told_by (is_some r.begun || is_calm (watch_next r.begun r.entries)) (changes_verdict name x.entry.reply) b note) there
+    ∙ ap (λ (n : NoteValue). told_by (is_some r.begun || is_calm (watch_next r.begun r.entries)) (changes_verdict name x.entry.reply) (is_some (past_with r.past x.entry.event)) n) is

@@ -3,7 +3,7 @@ use Rattle.std.proofs.Common.{◌≡◌, ℕ, ◌+◌, ◌≤◌, Bool, true, fa
 use Rattle.std.specs.Prelude.{count_by, filter, cond}
 use Rattle.std.proofs.lemmas.List.Sums.{sum_by-cons, sum_by_push}
 use Rattle.std.proofs.lemmas.Grind.{common_steps}
-use Rattle.lg_notes.specs.declared.insights.RecentRounds.{RecentRounds}
+use Rattle.lg_explain.specs.declared.rounds.RecentRounds.{RecentRounds}
 use Rattle.lg_explain.specs.Meaning.Rounds.{is_recent, is_recent_suspecting, recent_rounds}
 use Rattle.lg_explain.specs.Support.Ends.{KeepsEnds}
 use Rattle.lg_explain.specs.declared.rounds.RoundEnd.{RoundEnd}

@@ -8,5 +8,6 @@ pub mod PlaceExamples
 pub mod Places
 pub mod Rounds
 pub mod Sources
+pub mod Standstills
 pub mod Tellings
 pub mod Told

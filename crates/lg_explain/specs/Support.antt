@@ -5,3 +5,4 @@ pub mod Explained
 pub mod FolderAccounts
 pub mod Insights
 pub mod Positions
+pub mod Standstills

@@ -5,7 +5,7 @@
 ghost use Rattle.std.specs.Prelude.{◌≡◌, ◌++◌, ◌∷◌, [], ℕ, IfOk, List, OnOk, map};
 ghost use Rattle.lg_heads.specs.Meaning.Heads.{head_value};
 ghost use Rattle.lg_recording.specs.Meaning.Listing.{entries_scan};
-ghost use Rattle.lg_recording.specs.Meaning.Next.{entry_in};
+ghost use Rattle.lg_recording.specs.Meaning.Next.{recorded_in};
 ghost use Rattle.lg_accounts.specs.Meaning.Values.{account_value};
 ghost use Rattle.lg_explain.specs.Meaning.Explanations.{accounts_of};
 ghost use Rattle.lg_explain.specs.Meaning.Places.{FilesRead, entries_read, entry_read, head_read};
@@ -56,7 +56,7 @@ impl Explainer {
         recorded: &Recorded,
     ) -> Result<(), NoMemory>
         ensures { OnOk result (ReadsOn self.old self.new (λ r.
-            entry_read self.old.question.name (head_value head.entry.now) r (entry_in recorded.now))) }
+            entry_read self.old.question.name (head_value head.entry.now) r (recorded_in recorded.now))) }
     {
         let told = self
             .position
@@ -99,8 +99,9 @@ impl Explainer {
     /// their numbers. Entries are read up to the first fault. A file whose head can't be read tells nothing.
     ///
     /// If a life begins with the file, a detector is allocated, and else the table of its head, for this moment. Beside
-    /// these only the accounts, the notes of the episode that runs and the ends of the rounds of the last minute may
-    /// grow. Time is in proportion to the bytes, and to what the detector needs for their events.
+    /// these only the accounts, the notes of the episode that runs, and of the last minute the ends of rounds and for
+    /// how long the clock stood still may grow. Time is in proportion to the bytes, and to what the detector needs for
+    /// their events.
     ///
     /// The error is that memory was refused. It comes too if the number of an entry doesn't fit 64 bits, which no
     /// recording of a node reaches. The explainer is of no use any more then.

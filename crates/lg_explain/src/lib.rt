@@ -20,6 +20,7 @@ mod laws;
 mod position;
 mod question;
 mod rounds;
+mod standstills;
 mod subject;
 
 pub use explainer::Explainer;

@@ -2,23 +2,26 @@
 //!
 //! Defined in: `specs/Meaning/Places.antt`, `specs/Meaning/Tellings.antt`, `specs/Support/Positions.antt`.
 //! Tested in: `lg_explain_tests/src/explaining.rt`.
-ghost use Rattle.std.specs.Prelude.{◌≡◌, ◌+◌, ◌||◌, IfOk, OnOk};
+ghost use Rattle.std.specs.Prelude.{◌≡◌, ◌+◌, ◌||◌, ◌∷◌, IfOk, OnOk, max};
 ghost use Rattle.lg_heads.specs.Meaning.Heads.{head_value};
 ghost use Rattle.lg_notes.specs.Meaning.Watching.{is_calm};
-ghost use Rattle.lg_recording.specs.Meaning.Next.{entry_in};
+ghost use Rattle.lg_recording.specs.Meaning.Next.{recorded_in};
 ghost use Rattle.lg_explain.specs.Meaning.Places.{FilesRead, begun_from, head_read, nothing_read};
+ghost use Rattle.lg_explain.specs.Meaning.Rounds.{recent_rounds};
+ghost use Rattle.lg_explain.specs.Meaning.Standstills.{minute_of, stood_at, stood_in_minute};
 ghost use Rattle.lg_explain.specs.Support.Positions.{HasFollowed, IsAt, IsBegun, IsHere, KeepsKnown};
 ghost use Rattle.lg_explain.specs.Support.Positions.{KeepsRest, HasNoted, HasPassed};
 
 use crate::gathered::Told;
 use crate::insights::{insights_at, with_table};
 use crate::rounds::{RoundEnd, add_end, recent_rounds};
+use crate::standstills::{StoodStill, add_stood, stood_in_minute};
 use crate::subject::{CALM, note_subject, wall_of, watch_of_head};
 use arrayvec::ArrayVec;
 use lg_accounts::Note;
 use lg_detector::NoMemory;
 use lg_heads::Head;
-use lg_notes::{NoteSubject, Watch, changes_verdict, steps_of, teller_of};
+use lg_notes::{MinuteBefore, NoteSubject, Watch, changes_verdict, steps_of, teller_of};
 use lg_recording::Recorded;
 use lg_replay::{Known, moment_of_event};
 use lg_rules::Name;
@@ -40,6 +43,8 @@ pub(crate) struct Position {
     pub(crate) greatest: Moment,
     /// The ends of rounds before it, as far back as they may count, the earliest first.
     pub(crate) ends: Vec<RoundEnd>,
+    /// For how long the clock stood still, as entries before it say, as far back as they may count.
+    pub(crate) stood: Vec<StoodStill>,
 }
 
 /// The next number. The error, which is that of refused memory, comes if it doesn't fit 64 bits, which no recording of
@@ -63,6 +68,7 @@ impl Position {
             watch: CALM,
             greatest: Moment::default(),
             ends: Vec::new(alloc),
+            stood: Vec::new(alloc),
         })
     }
 
@@ -75,6 +81,7 @@ impl Position {
         self.watch = watch;
         self.greatest = Moment::default();
         self.ends.clear();
+        self.stood.clear();
     }
 
     /// A file follows: the next entry doesn't go on with the one before it, if a life begins with the file, or if some
@@ -110,6 +117,21 @@ impl Position {
         Ok(())
     }
 
+    /// What was in the minute before an entry, by what is kept and by what the entry says of the clock.
+    fn minute_before(&self, moment: Moment, stood_still_ms: u64) -> MinuteBefore
+        ensures { result ≡ minute_of (recent_rounds (max self.now.greatest moment) self.now.ends.items)
+            (stood_in_minute (max self.now.greatest moment)
+            (stood_at (max self.now.greatest moment) stood_still_ms ∷ self.now.stood.items)) }
+    {
+        let now = self.greatest.later(moment);
+        let rounds = recent_rounds(now, self.ends.as_slice());
+        MinuteBefore {
+            ended: rounds.ended,
+            suspected: rounds.suspected,
+            stood_still_ms: stood_in_minute(now, stood_still_ms, self.stood.as_slice()),
+        }
+    }
+
     /// What an entry tells. Its event happens to the detector.
     fn note(
         &mut self,
@@ -119,11 +141,11 @@ impl Position {
         recorded: &Recorded,
     ) -> Result<Note, NoMemory>
         ensures noted { IfOk result (HasNoted self.old self.new subject.now (head_value head.entry.now)
-            (entry_in recorded.now)) }
+            (recorded_in recorded.now)) }
         ensures same { KeepsRest self.old self.new }
     {
         let moment = moment_of_event(&recorded.event);
-        let recent = recent_rounds(self.greatest.later(moment), self.ends.as_slice());
+        let minute = self.minute_before(moment, recorded.stood_still_ms);
         let mut table = ArrayVec::new();
         let both = insights_at(&mut self.known, &subject.name, &recorded.event, &mut table);
         let insights = with_table(both, table.as_slice());
@@ -134,7 +156,7 @@ impl Position {
             &recorded.event,
             &recorded.reply,
             &insights,
-            recent,
+            minute,
         )?;
         Ok(Note {
             entry: self.number,
@@ -154,13 +176,14 @@ impl Position {
 
     /// Goes on behind an entry whose event happened to the detector.
     fn pass(&mut self, subject: &NoteSubject, recorded: &Recorded) -> Result<(), NoMemory>
-        ensures { OnOk result (HasPassed self.old self.new subject.now (entry_in recorded.now)) }
+        ensures { OnOk result (HasPassed self.old self.new subject.now (recorded_in recorded.now)) }
     {
         self.greatest = self.greatest.later(moment_of_event(&recorded.event));
         self.watch = self
             .watch
             .behind(subject, self.greatest, &recorded.event, &recorded.reply);
         add_end(&mut self.ends, self.greatest, &recorded.reply)?;
+        add_stood(&mut self.stood, self.greatest, recorded.stood_still_ms)?;
         self.number = one_more(self.number)?;
         self.begins = false;
         Ok(())
@@ -176,7 +199,7 @@ impl Position {
         recorded: &Recorded,
     ) -> Result<Told, NoMemory>
         ensures { IfOk result (HasFollowed self.old self.new name.now (head_value head.entry.now)
-            (entry_in recorded.now)) }
+            (recorded_in recorded.now)) }
     {
         let subject = note_subject(name, head);
         let begins = self.begins_episode();

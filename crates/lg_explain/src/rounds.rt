@@ -8,11 +8,20 @@ ghost use Rattle.lg_explain.specs.Support.Ends.{KeepsEnds};
 ghost use Rattle.lg_explain.specs.declared.rounds.RoundEnd.{RoundEnd as Ended};
 
 use lg_detector::{NoMemory, Reply};
-use lg_notes::{RecentRounds, ends_round, suspects_some};
+use lg_notes::{ends_round, suspects_some};
 use lg_timing::Moment;
 
 /// The span before an entry in which ends of rounds are counted: a minute, in milliseconds.
-const RECENT_MS: u64 = 60_000;
+pub(crate) const RECENT_MS: u64 = 60_000;
+
+/// The rounds of the node that ended in the minute before an entry.
+#[derive(Clone, Copy, Debug)]
+pub(crate) struct RecentRounds {
+    /// How many ended.
+    pub(crate) ended: u64,
+    /// How many of these ended with a suspicion of some member.
+    pub(crate) suspected: u64,
+}
 
 /// The end of a round of the node.
 #[derive(Clone, Copy, Debug)]

@@ -1,16 +1,15 @@
-//! How accounts are written.
+//! How accounts are written as lines.
 //!
-//! Defined in: `specs/Meaning/Running.antt`, `lg_accounts/specs/Meaning/Accounts.antt`, `Json.antt`,
-//! `Pages.antt`.
+//! Defined in: `specs/Meaning/Running.antt`, `lg_accounts/specs/Meaning/Accounts.antt`, `Json.antt`.
 //! Tested in: `cases/recordings`.
 ghost use Rattle.std.specs.Prelude.{◌≡◌, IfOk};
 ghost use Rattle.lg_explain_run.specs.Meaning.Running.{written_accounts};
 
-use lg_accounts::{Account, NoMemory, put_accounts, put_accounts_json, put_accounts_page};
+use lg_accounts::{Account, NoMemory, put_accounts, put_accounts_json};
 use lg_rules::Name;
 use std::alloc::Global;
 
-/// How accounts are written.
+/// How accounts are written as lines.
 #[derive(Clone, Copy, Debug, PartialEq, Eq)]
 pub enum AccountForm {
     /// As lines.
@@ -19,8 +18,6 @@ pub enum AccountForm {
     NumberedLines,
     /// As JSON, in one line, with the number of each entry.
     Json,
-    /// As a page of HTML.
-    Page,
 }
 
 /// The text of a member's accounts. The error is that memory was refused for it.
@@ -37,7 +34,6 @@ pub(crate) fn text_of(
         AccountForm::Lines => put_accounts(name, accounts, false, &mut text)?,
         AccountForm::NumberedLines => put_accounts(name, accounts, true, &mut text)?,
         AccountForm::Json => put_accounts_json(name, accounts, &mut text)?,
-        AccountForm::Page => put_accounts_page(name, accounts, &mut text)?,
     }
     Ok(text)
 }

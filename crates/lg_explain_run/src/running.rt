@@ -66,7 +66,7 @@ where
 }
 
 /// The exit status by the accounts.
-fn status_of(accounts: &[Account]) -> u8
+pub(crate) fn status_of(accounts: &[Account]) -> u8
     ensures { result ≡ accounts_status accounts.now }
 {
     if accounts.is_empty() { 1 } else { 0 }

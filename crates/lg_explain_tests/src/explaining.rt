@@ -1,5 +1,5 @@
 //! Recordings that are explained: of `a`, whose probe of `b` gets no answer; whole, in two files, with the first file
-//! missing, and behind another life.
+//! missing, behind another life, and with a clock that stood still.
 
 use lg_accounts::{Account, Note, NoteStep};
 use lg_detector::{Detector, Event, Reply};
@@ -12,7 +12,7 @@ use std::alloc::Global;
 use std::test::Fail;
 
 /// How many events a life has.
-const EVENTS: usize = 4;
+pub(crate) const EVENTS: usize = 4;
 
 /// The wall time at the moment 0.
 const BEGUN: u64 = 1_764_525_600_000;
@@ -27,9 +27,22 @@ fn config() -> Config {
     config
 }
 
-/// The event with this number of a life: `a` is opened and pings `b`. At 500 there is nobody to ask, and at 1000 the
+/// How a life goes: at which moment the round ends, and for how long the clock stood still, as each entry says.
+#[derive(Clone, Copy)]
+struct Life {
+    end: u64,
+    stood_still_ms: [u64; EVENTS],
+}
+
+/// A life whose clock never stood still.
+const STEADY: Life = Life {
+    end: 1000,
+    stood_still_ms: [0; EVENTS],
+};
+
+/// The event with this number of a life: `a` is opened and pings `b`. At 500 there is nobody to ask, and at last the
 /// round ends without an Ack, so that `b` is suspected.
-fn event(number: usize) -> Event {
+fn event(number: usize, end: u64) -> Event {
     let words = [0; 8];
     match number {
         0 => Event::Open {
@@ -42,7 +55,7 @@ fn event(number: usize) -> Event {
             words,
         },
         _ => Event::Tick {
-            now: at(1000),
+            now: at(end),
             words,
         },
     }
@@ -80,8 +93,13 @@ fn put_beginning(
     Ok(())
 }
 
+/// A file of the events from one to before another of a life whose clock never stood still.
+pub(crate) fn file(alloc: Global, from: usize, to: usize) -> Result<Vec<u8>, Fail> {
+    file_of(alloc, &STEADY, from, to)
+}
+
 /// A file of the events from one to before another of a life.
-fn file(alloc: Global, from: usize, to: usize) -> Result<Vec<u8>, Fail> {
+fn file_of(alloc: Global, life: &Life, from: usize, to: usize) -> Result<Vec<u8>, Fail> {
     let mut out = Vec::new(alloc);
     let mut detector = Detector::blank(alloc)?;
     let mut buffers = EntryBuffers::new(alloc);
@@ -90,20 +108,27 @@ fn file(alloc: Global, from: usize, to: usize) -> Result<Vec<u8>, Fail> {
         if number == from {
             put_beginning(alloc, number, &detector, &mut out)?;
         }
-        let event = event(number);
+        let event = event(number, life.end);
         if detector.accepts(&event) {
             detector.step(&event, &mut reply);
         }
         if number >= from {
             let seat = usize::from(number > 0);
-            put_entry(seat, &event, &reply, &mut buffers, &mut out)?;
+            put_entry(
+                seat,
+                &event,
+                &reply,
+                life.stood_still_ms.get(number).copied().unwrap_or(0),
+                &mut buffers,
+                &mut out,
+            )?;
         }
     }
     Ok(out)
 }
 
 /// The question for the accounts of `b` up to a moment.
-fn question(milliseconds: u64, all: bool) -> MemberQuestion {
+pub(crate) fn question(milliseconds: u64, all: bool) -> MemberQuestion {
     MemberQuestion {
         name: letter(b'b'),
         at: at(milliseconds),
@@ -164,6 +189,46 @@ fn tells_why_a_member_was_suspected(rt: HostRuntime) -> Result<(), Fail> {
     let files = [file(alloc, 0, EVENTS)?];
     let accounts = explained(alloc, &files, question(MAX_MOMENT, false))?;
     assert!(rt; accounts.len() == 1 && accounts.iter().all(|account| is_whole(account)));
+    Ok(())
+}
+
+/// What the notes of some accounts say of how long the clock stood still.
+fn stood_still(accounts: &[Account]) -> Option<u64> {
+    let mut told = None;
+    for note in accounts.first()?.notes.iter() {
+        if let Some(NoteStep::Minute { stood_still_ms, .. }) = note.steps.last() {
+            told = Some(*stood_still_ms);
+        }
+    }
+    told
+}
+
+#[test]
+fn tells_for_how_long_the_clock_stood_still(rt: HostRuntime) -> Result<(), Fail> {
+    let alloc = rt.alloc();
+    let most = u64::MAX;
+    let rows = [
+        (1000, [0, 0, 0, 0], 0),
+        (1000, [1, 20, 300, 4000], 4321),
+        (59_999, [1, 20, 300, 4000], 4321),
+        (60_000, [1, 20, 300, 4000], 4300),
+        (60_499, [1, 20, 300, 4000], 4300),
+        (60_500, [1, 20, 300, 4000], 4000),
+        (1000, [0, 0, most, 1], most),
+        (1000, [0, 1, 0, most], most),
+    ];
+    for (end, stood_still_ms, due) in rows {
+        let life = Life {
+            end,
+            stood_still_ms,
+        };
+        let parts = [
+            file_of(alloc, &life, 0, 2)?,
+            file_of(alloc, &life, 2, EVENTS)?,
+        ];
+        let accounts = explained(alloc, &parts, question(MAX_MOMENT, false))?;
+        assert!(rt; stood_still(&accounts) == Some(due));
+    }
     Ok(())
 }
 

@@ -1,4 +1,5 @@
-//! Tests of accounts of a member: by the files of a recording, and their text, their JSON, their page and verdicts.
+//! Tests of accounts of a member: by the files of a recording, and their text, their JSON, their page and verdicts. And
+//! of the files that pages are written into.
 #![tactic(auto)]
 
 #[cfg(test)]
@@ -7,6 +8,8 @@ mod explaining;
 mod making;
 #[cfg(test)]
 mod pages;
+#[cfg(test)]
+mod paging;
 #[cfg(test)]
 mod texts;
 #[cfg(test)]

@@ -94,9 +94,10 @@ fn round_ended() -> [NoteStep; 5] {
             record: suspected_by(b'b', 0),
         },
         timeout(0, 20904),
-        NoteStep::Rounds {
+        NoteStep::Minute {
             ended: 0,
             suspected: 0,
+            stood_still_ms: 0,
         },
     ]
 }

@@ -14,7 +14,7 @@ const FAILED: &str = "c failed at 7020 ms (2026-11-27 03:12:44), here.\n\
 \x20 1905  a sent a Nack: no Ack of it had come.\n\
 \x20 2020  The round ended without an Ack. Our health score rose from 0 to 2. We suspected it at incarnation 0. \
 We knew 5 live members. After 0 of 3 confirmations the timeout was 20904 ms. \
-In the minute before, 0 of our rounds ended, 0 of them with a suspicion.\n\
+In the minute before, 0 of our rounds ended, 0 of them with a suspicion, and our clock stood still for 0 ms.\n\
 \x20 2940  d told us that d suspects it at incarnation 0. We knew 5 live members. \
 After 1 of 3 confirmations the timeout was 12194 ms.\n\
 \x20 7020  The time was over, and no refutation had come. We took it as failed.\n";

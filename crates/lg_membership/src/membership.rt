@@ -179,21 +179,18 @@ impl Membership {
         }
     }
 
-    /// Copies the member. Allocates no memory.
-    pub fn copy(&self) -> Membership
-        ensures { result ≡ self.now }
+    /// Overwrites another member by this one. Allocates no memory.
+    pub fn copy_into(&self, into: &mut Membership)
+        ensures { into.new ≡ self.now }
     {
-        let config = match &self.config {
+        into.config = match &self.config {
             Some(config) => Some(config.copy()),
             None => None,
         };
-        Membership {
-            config,
-            own: self.own,
-            members: self.members.copy(),
-            suspicions: self.suspicions.copy(),
-            queue: self.queue.copy(),
-        }
+        into.own = self.own;
+        into.members = self.members.copy();
+        self.suspicions.copy_into(&mut into.suspicions);
+        into.queue = self.queue.copy();
     }
 
     /// Opens the member with a configuration that passed its check. Forgets all that was known. In version 3 this

@@ -45,16 +45,15 @@ impl Model for Suspicions {
     ghost invariant = { λ s. AreAccusersIn s.accusers s.rows.items };
 }
 
-/// Copies suspicions.
-fn copy_rows(rows: &[Suspected]) -> ArrayVec<Suspected, MAX_OTHERS>
+/// Overwrites suspicions by copies of others.
+fn copy_rows(rows: &[Suspected], copies: &mut ArrayVec<Suspected, MAX_OTHERS>)
     requires { length rows.now ≤ MAX_OTHERS }
-    ensures { result.items ≡ rows.now }
+    ensures { copies.new.items ≡ rows.now }
 {
-    let mut copies = ArrayVec::new();
+    copies.clear();
     for suspected in rows {
         copies.push(suspected.copy());
     }
-    copies
 }
 
 /// Takes one more accuser of a suspected member. The set then has the slots of the suspicion's accusers, if these are
@@ -110,14 +109,12 @@ impl Suspicions {
         }
     }
 
-    /// Copies the suspicions. Allocates no memory.
-    pub(crate) fn copy(&self) -> Suspicions
-        ensures { result ≡ self.now }
+    /// Overwrites other suspicions by these. Copies no more rows than there are. Allocates no memory.
+    pub(crate) fn copy_into(&self, into: &mut Suspicions)
+        ensures { into.new ≡ self.now }
     {
-        Suspicions {
-            rows: copy_rows(self.rows.as_slice()),
-            accusers: self.accusers,
-        }
+        copy_rows(self.rows.as_slice(), &mut into.rows);
+        into.accusers = self.accusers;
     }
 
     /// How the suspicion of a member stands, or `None` if it isn't suspected.

@@ -1,5 +1,5 @@
 -- What a status server did beside the loops of a node.
-use Rattle.std.proofs.Common.{◌≡◌, List, ℕ, subst}
+use Rattle.std.proofs.Common.{◌≡◌, List, Option, ℕ, subst}
 use Rattle.lg_timing.specs.declared.config.Config.{Config}
 use Rattle.lg_agent.specs.Meaning.Values.{PassValue}
 use Rattle.lg_http.specs.declared.hosts.Hosts.{Hosts}
@@ -13,13 +13,15 @@ use Rattle.lg_node.specs.Meaning.Starts.{hosts_of, Shows}
 use Rattle.lg_node.specs.Meaning.Nodes.{DidServe}
 
 -- a server that shows the configuration and the settings of a node serves the node
-pub did_serve : (config : Config) (settings : Settings) (before after : PassValue) (end : Served) (name : List ℕ) (shown : ShownConfig) (hosts : Hosts) (server server' : Server)
-    → name ≡ config.name → hosts ≡ hosts_of settings.status → Shows config settings shown → ServedAs end name shown settings.leave hosts before after server server'
+pub did_serve : (config : Config) (settings : Settings) (before after : PassValue) (end : Served) (name : List ℕ) (shown : ShownConfig) (folder : Option (List ℕ)) (hosts : Hosts) (server server' : Server)
+    → name ≡ config.name → folder ≡ settings.record_folder → hosts ≡ hosts_of settings.status → Shows config settings shown
+    → ServedAs end name shown settings.leave folder hosts before after server server'
     → DidServe config settings before after server server' end
-did_serve config settings before after (served.Refused refusal) name shown hosts server server' named are shows did = (did.1, did.2)
-did_serve config settings before after (served.Ended end counts) name shown hosts server server' named are shows did = (
+did_serve config settings before after (served.Refused refusal) name shown folder hosts server server' named held are shows did = (did.1, did.2)
+did_serve config settings before after (served.Ended end counts) name shown folder hosts server server' named held are shows did = (
   shown,
   shows,
-  subst (λ (h : Hosts). ServedAs (served.Ended end counts) config.name shown settings.leave h before after server server') are
-      (subst (λ (n : List ℕ). ServedAs (served.Ended end counts) n shown settings.leave hosts before after server server') named did),
+  subst (λ (h : Hosts). ServedAs (served.Ended end counts) config.name shown settings.leave settings.record_folder h before after server server') are
+      (subst (λ (f : Option (List ℕ)). ServedAs (served.Ended end counts) config.name shown settings.leave f hosts before after server server') held
+      (subst (λ (n : List ℕ). ServedAs (served.Ended end counts) n shown settings.leave folder hosts before after server server') named did)),
 )

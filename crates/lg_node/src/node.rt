@@ -12,6 +12,7 @@ use crate::start::{Setup, open_and_serve};
 use arrayvec::ArrayVec;
 use lg_agent::{CloseFault, Closed, Refusal};
 use lg_answers::SeedPlace;
+use lg_config::FilePath;
 use lg_follow::Watched;
 use lg_rules::{Addr, Record};
 use lg_seal::Keys;
@@ -21,6 +22,7 @@ use lg_timing::{Config, MAX_SEEDS, Moment};
 use lg_turns::{LoopEnd, NodeRecorder, ReceivingLoop, ResolvedSeeds, SeedAsker, TickingLoop};
 use lg_view::UnnamedBook;
 use std::alloc::Global;
+use std::fs::Files;
 use std::io::{ErrorKind, Write};
 use std::marker::Brand;
 use std::net::Net;
@@ -61,6 +63,9 @@ pub struct Settings {
     pub status_open: bool,
     /// Whether a request over HTTP may end it ([`serve`](lg_status_server::serve)).
     pub leave: bool,
+    /// The folder of its recording, if it has a recorder: its status server tells what the newest files there have of a
+    /// member.
+    pub record_folder: Option<FilePath>,
     /// The keys of its group, if the group has any. The node then sends and takes only sealed datagrams
     /// ([`KeyedLink`](crate::KeyedLink)), and counts those that it drops for the status server.
     pub keys: Option<Keys>,
@@ -173,7 +178,9 @@ pub fn run_node<O, R, K, W, F>(
 ) -> Result<NodeEnd, NodeFault>
 where
     O: SeedAsker + TickingLoop + ReceivingLoop + Copy + Send,
-    R: Wait + Threads + Net + rt::Clock + RandomSource + Sync,
+    R: Wait + Threads + Net + Files + rt::Clock + RandomSource + AllocGlobal + Clone + Sync + Drop,
+    R::File: Send,
+    R::Dir: Send,
     K: NodeRecorder + Send + Drop,
     W: Write + Send,
     F: FaultStream + Send,

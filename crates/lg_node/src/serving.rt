@@ -3,7 +3,7 @@
 //! Defined in: `specs/Meaning/Nodes.antt`, `specs/Meaning/Starts.antt`,
 //! `lg_status_server/specs/Meaning/Served.antt`.
 //! Tested in: `cases/status`.
-ghost use Rattle.std.specs.Prelude.{◌≡◌, is_some, IfErr, IfOk, IfSome, Some};
+ghost use Rattle.std.specs.Prelude.{◌≡◌, is_some, option_map, IfErr, IfOk, IfSome, Some};
 ghost use Rattle.lg_timing.specs.declared.config.Config.{Config as Opened};
 ghost use Rattle.lg_follow.specs.Meaning.Sights.{OnlyLooked};
 ghost use Rattle.lg_http.specs.Meaning.Slots.{AreFree, slots_of};
@@ -26,6 +26,7 @@ use lg_timing::Config;
 use lg_turns::Shared;
 use lg_view::{Published, Update};
 use std::alloc::{AllocError, Global};
+use std::fs::Files;
 use std::rt;
 
 /// A status server that is bound and doesn't serve yet. Only a node makes one.
@@ -80,6 +81,16 @@ fn hosts_of(addr: Option<Addr>) -> Hosts
     }
 }
 
+/// The folder of the recording of which a status server tells, if there is one.
+fn folder_of(settings: &Settings) -> Option<&str>
+    ensures { option_map (λ folder. folder.now) result ≡ settings.now.record_folder }
+{
+    match &settings.record_folder {
+        Some(folder) => Some(folder.as_str()),
+        None => None,
+    }
+}
+
 /// A status server that is ready to serve, if one is bound. The error is the machine's clock, if it can't be read.
 pub(crate) fn status_server<'s, 'r, R: rt::Clock>(
     rt: &'r R,
@@ -121,13 +132,17 @@ pub(crate) fn signal_of<'s, R>(status: &Option<StatusServer<'s, '_, R>>) -> Opti
 }
 
 /// Serves with a pass until the loops have ended, and gives it back.
-fn serve_with<'p, A: AgentName, R: rt::Clock, C: Clock>(
+fn serve_with<'p, A, R, C>(
     shared: &Shared<'_, R, C>,
     config: &Config,
     settings: &Settings,
     status: &mut StatusServer<'_, '_, R>,
     pass: Pass<'p, A>,
 ) -> (Pass<'p, A>, Served)
+where
+    A: AgentName,
+    R: Files + rt::Clock + AllocGlobal + Clone + Drop,
+    C: Clock,
     requires { shared.now.counters.now.name ≡ config.now.name }
     ensures looked { OnlyLooked pass.entry result.0 }
     ensures did { DidServe config.now settings.now pass.entry result.0 status.old.server status.new.server
@@ -136,13 +151,16 @@ fn serve_with<'p, A: AgentName, R: rt::Clock, C: Clock>(
     let Ok(shown) = shown_of(shared.alloc, config, settings) else {
         return (pass, Served::Refused(Refusal::NoMemory));
     };
+    let folder = folder_of(settings);
     let basis = SiteBasis {
+        rt: shared.rt,
         alloc: shared.alloc,
         clock: shared.clock,
         counters: shared.counters,
         config: shown,
         stop: shared.stop,
         leave: settings.leave,
+        folder,
     };
     let hosts = hosts_of(settings.status);
     serve(
@@ -171,7 +189,7 @@ pub type ServerLeft<'p, 'f, A, F> = (Pass<'p, A>, (&'f mut F, Option<Served>));
 
 /// Serves with a pass until the loops have ended, if there is a status server. Otherwise it does nothing. A server that
 /// ends before that by itself is reported. Gives the pass and the stream back, with how the server ended.
-pub(crate) fn serve_if<'p, 'f, A: AgentName, R: rt::Clock, C: Clock, F: FaultStream>(
+pub(crate) fn serve_if<'p, 'f, A, R, C, F>(
     shared: &Shared<'_, R, C>,
     config: &Config,
     settings: &Settings,
@@ -179,6 +197,11 @@ pub(crate) fn serve_if<'p, 'f, A: AgentName, R: rt::Clock, C: Clock, F: FaultStr
     pass: Pass<'p, A>,
     faults: &'f mut F,
 ) -> ServerLeft<'p, 'f, A, F>
+where
+    A: AgentName,
+    R: Files + rt::Clock + AllocGlobal + Clone + Drop,
+    C: Clock,
+    F: FaultStream,
     requires free { IfSome status (λ status. AreFree (slots_of status.server)) }
     requires name { shared.now.counters.now.name ≡ config.now.name }
     ensures same { result.1.0.ghost_name ≡ faults.entry.ghost_name }
@@ -213,7 +236,7 @@ impl<'x, 'a, 'n, 's, 'r, 'p, 'f, A, R, C, F> Work<ServerLeft<'p, 'f, A, F>>
     for Serving<'x, 'a, 'n, 's, 'r, 'p, 'f, A, R, C, F>
 where
     A: AgentName,
-    R: rt::Clock,
+    R: Files + rt::Clock + AllocGlobal + Clone + Drop,
     C: Clock,
     F: FaultStream,
 {

@@ -36,6 +36,7 @@ use lg_turns::{
 };
 use lg_view::UnnamedBook;
 use std::alloc::Global;
+use std::fs::Files;
 use std::io::Write;
 use std::net::UdpSocket;
 use std::rt;
@@ -85,7 +86,9 @@ pub(crate) fn open_and_serve<'s, A, O, R, K, W, F>(
 where
     A: AgentName + Send + Sync,
     O: SeedAsker + TickingLoop + ReceivingLoop + Copy + Send,
-    R: Wait + Threads + rt::Clock + Sync,
+    R: Wait + Threads + Files + rt::Clock + AllocGlobal + Clone + Sync + Drop,
+    R::File: Send,
+    R::Dir: Send,
     K: NodeRecorder + Send + Drop,
     W: Write + Send,
     F: FaultStream + Send,

@@ -56,6 +56,7 @@ use lg_turns::{
     Side, TickingLoop,
 };
 use lg_view::{Published, Update};
+use std::fs::Files;
 use std::rt;
 use std::sync::Wait;
 use std::thread::Threads;
@@ -212,7 +213,9 @@ pub fn join_threads<'l, 'p, 'f, A, O, R, L, C, V, T, F, Z, Q>(
 where
     A: AgentName + Send + Sync,
     O: TickingLoop + ReceivingLoop + Copy + Send,
-    R: Wait + Threads + rt::Clock + Sync,
+    R: Wait + Threads + Files + rt::Clock + AllocGlobal + Clone + Sync + Drop,
+    R::File: Send,
+    R::Dir: Send,
     L: Link + Send + Drop,
     C: Clock + Sync,
     V: Work<T> + Send + Drop,
@@ -277,7 +280,9 @@ pub(crate) fn join_recorded<'l, 'p, 'f, A, O, R, L, C, V, T, F, K>(
 where
     A: AgentName + Send + Sync,
     O: TickingLoop + ReceivingLoop + Copy + Send,
-    R: Wait + Threads + rt::Clock + Sync,
+    R: Wait + Threads + Files + rt::Clock + AllocGlobal + Clone + Sync + Drop,
+    R::File: Send,
+    R::Dir: Send,
     L: Link + Send + Drop,
     C: Clock + Sync,
     V: Work<T> + Send + Drop,

@@ -234,6 +234,7 @@ fn settings_of(follow: bool) -> Settings {
         status: None,
         status_open: false,
         leave: true,
+        record_folder: None,
         keys: None,
     }
 }

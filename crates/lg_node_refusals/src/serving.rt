@@ -47,6 +47,7 @@ where
         status: Some(local(ANY_PORT)),
         status_open: false,
         leave: true,
+        record_folder: None,
         keys: None,
     };
     let stop = AtomicBool::new(false);

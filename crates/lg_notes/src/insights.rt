@@ -1,4 +1,4 @@
-//! What the definitions say before and after the event of an entry, and the rounds before it.
+//! What the definitions say before and after the event of an entry, and what was in the minute before it.
 
 use lg_detector::SuspicionStanding;
 use lg_rules::Record;
@@ -24,11 +24,13 @@ pub struct Insights<'a> {
     pub table: &'a [Record],
 }
 
-/// The rounds of the node that ended in the minute before an entry.
+/// What was of the node in the minute before an entry.
 #[derive(Clone, Copy, Debug)]
-pub struct RecentRounds {
-    /// How many ended.
+pub struct MinuteBefore {
+    /// How many of its rounds ended.
     pub ended: u64,
     /// How many of these ended with a suspicion of some member.
     pub suspected: u64,
+    /// For how long its clock stood still, in milliseconds.
+    pub stood_still_ms: u64,
 }

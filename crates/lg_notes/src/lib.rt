@@ -20,7 +20,7 @@ mod timers;
 mod watch;
 
 pub use about::{changes_verdict, suspects_some, teller_of};
-pub use insights::{Insight, Insights, RecentRounds};
+pub use insights::{Insight, Insights, MinuteBefore};
 pub use lg_detector::NoMemory;
 pub use steps::steps_of;
 pub use subject::NoteSubject;

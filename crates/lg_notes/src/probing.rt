@@ -7,11 +7,11 @@ ghost use Rattle.arrayvec.specs.ArrayVec.{array_vec_len};
 ghost use Rattle.lg_notes.specs.Meaning.Insights.{maybe_insights};
 ghost use Rattle.lg_notes.specs.Meaning.Probing.{acked_steps, acker_of, acks_probe, ended_steps, ends_probe};
 ghost use Rattle.lg_notes.specs.Meaning.Probing.{helper_name, helper_of, helpers_asked, is_to, nacked_steps};
-ghost use Rattle.lg_notes.specs.Meaning.Probing.{nacker_of, nacks_probe, pinged_steps, rounds_steps, score_rose};
+ghost use Rattle.lg_notes.specs.Meaning.Probing.{nacker_of, nacks_probe, pinged_steps, minute_steps, score_rose};
 ghost use Rattle.lg_notes.specs.Meaning.Probing.{score_told, scored_steps, unanswered_steps};
 
 use crate::about::{is_heard, suspects_member};
-use crate::insights::{Insights, RecentRounds};
+use crate::insights::{Insights, MinuteBefore};
 use crate::subject::NoteSubject;
 use crate::timers::{asks_helpers, ends_round};
 use crate::watch::{RunningProbe, ping_of_start};
@@ -257,22 +257,24 @@ pub(crate) fn push_scored(
     push_score(told, known, steps)
 }
 
-/// Appends how the rounds of the minute before ended, if the round of a probe of the member ended with its suspicion.
-#[tactic(auto, unfolding(crate::specs::Meaning::Probing::rounds_steps))]
-pub(crate) fn push_rounds(
+/// Appends how the rounds of the minute before ended, and for how long the clock stood still in it, if the round of a
+/// probe of the member ended with its suspicion.
+#[tactic(auto, unfolding(crate::specs::Meaning::Probing::minute_steps))]
+pub(crate) fn push_minute(
     name: &Name,
     probe: &Option<RunningProbe>,
     reply: &Reply,
-    rounds: RecentRounds,
+    minute: MinuteBefore,
     steps: &mut Vec<NoteStep>,
 ) -> Result<(), NoMemory>
     ensures { OnOk result (steps.new.items
-        ≡ steps.old.items ++ rounds_steps name.now probe.now reply.now rounds) }
+        ≡ steps.old.items ++ minute_steps name.now probe.now reply.now minute) }
 {
     if ends_probe(probe, reply) && suspects_member(name, reply) {
-        steps.push(NoteStep::Rounds {
-            ended: rounds.ended,
-            suspected: rounds.suspected,
+        steps.push(NoteStep::Minute {
+            ended: minute.ended,
+            suspected: minute.suspected,
+            stood_still_ms: minute.stood_still_ms,
         })?;
     }
     Ok(())

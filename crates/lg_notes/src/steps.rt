@@ -6,9 +6,9 @@ ghost use Rattle.std.specs.Prelude.{◌≡◌, IfOk};
 ghost use Rattle.lg_notes.specs.Meaning.Insights.{maybe_insights, table_known};
 ghost use Rattle.lg_notes.specs.Meaning.Steps.{steps_of};
 
-use crate::insights::{Insights, RecentRounds};
+use crate::insights::{Insights, MinuteBefore};
 use crate::probing::{
-    push_acked, push_ended, push_nacked, push_pinged, push_rounds, push_scored, push_unanswered,
+    push_acked, push_ended, push_minute, push_nacked, push_pinged, push_scored, push_unanswered,
 };
 use crate::subject::NoteSubject;
 use crate::suspecting::{push_changed, push_suspected, push_time_over, push_told};
@@ -29,7 +29,7 @@ fn table_known<'a>(known: &Option<Insights<'a>>) -> &'a [Record]
 }
 
 /// The steps of an entry, in the order in which they are told. `watch` is what is known of the member before the entry,
-/// `known` what the definitions say of its event, and `rounds` are those that ended in the minute before.
+/// `known` what the definitions say of its event, and `minute` what was in the minute before.
 ///
 /// Allocates the list and nothing else; the only error is that memory was refused.
 #[tactic(auto, unfolding(crate::specs::Meaning::Steps::steps_of))]
@@ -40,10 +40,10 @@ pub fn steps_of(
     event: &Event,
     reply: &Reply,
     known: &Option<Insights<'_>>,
-    rounds: RecentRounds,
+    minute: MinuteBefore,
 ) -> Result<Vec<NoteStep>, NoMemory>
     ensures { IfOk result (λ steps. steps.items
-        ≡ steps_of subject.now watch.now event.now reply.now (maybe_insights known.now) rounds) }
+        ≡ steps_of subject.now watch.now event.now reply.now (maybe_insights known.now) minute) }
 {
     let name = &subject.name;
     let probe = &watch.probe;
@@ -58,6 +58,6 @@ pub fn steps_of(
     push_time_over(name, reply, &mut steps)?;
     push_changed(name, reply, &mut steps)?;
     push_suspected(known, &mut steps)?;
-    push_rounds(name, probe, reply, rounds, &mut steps)?;
+    push_minute(name, probe, reply, minute, &mut steps)?;
     Ok(steps)
 }

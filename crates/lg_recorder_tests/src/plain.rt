@@ -57,6 +57,8 @@ impl BatchSource<u64> for PlainBatch {
 
     ghost took = { λ before after. before ≤ after };
 
+    ghost taking = { λ before is_taken batch after. before ≤ after };
+
     /// The batch behind so many entries, as long as the one before. There are none behind 99.
     fn take(&mut self, made: &mut u64) -> bool {
         if *made > 99 {

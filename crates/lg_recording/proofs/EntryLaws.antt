@@ -15,9 +15,10 @@ use Rattle.lg_fields.specs.declared.fault.FieldFault.{FieldFault}
 use Rattle.lg_fields.specs.declared.fault.FieldFault.TheVariants as faults
 use Rattle.lg_fields.specs.Meaning.Spelled.{spelled_count, spelled_flag, spelled_records, IsCount, AreRecords}
 use Rattle.lg_fields.specs.Meaning.Scanned.{◌>>=◌, count_scan, flag_scan, records_scan}
-use Rattle.lg_recording.specs.Meaning.Spelling.{greatest_seat, spelled_event, spelled_fired, spelled_sends, spelled_names, spelled_answer, spelled_reply, spelled_entry, told_sends, told_reply, told_entry}
-use Rattle.lg_recording.specs.Meaning.Fitting.{IsFiredSpelled, AreSendsSpelled, AreNamesSpelled, IsAnswerSpelled, IsReplySpelled, IsEntrySpelled}
-use Rattle.lg_recording.specs.Meaning.Scanning.{event_scan, sends_scan, names_scan, answer_scan, reply_scan, entry_scan, whole_of, entry_of}
+use Rattle.lg_recording.specs.Meaning.Values.{RecordedEntry, with_standstill}
+use Rattle.lg_recording.specs.Meaning.Spelling.{greatest_seat, spelled_event, spelled_fired, spelled_sends, spelled_names, spelled_answer, spelled_reply, spelled_entry, spelled_recorded, told_sends, told_reply, told_entry, told_recorded}
+use Rattle.lg_recording.specs.Meaning.Fitting.{IsFiredSpelled, AreSendsSpelled, AreNamesSpelled, IsAnswerSpelled, IsReplySpelled, IsEntrySpelled, IsRecordedSpelled}
+use Rattle.lg_recording.specs.Meaning.Scanning.{event_scan, sends_scan, names_scan, answer_scan, reply_scan, entry_scan, recorded_scan, whole_of, recorded_of}
 use Rattle.lg_recording.specs.Support.Fields.{IsField}
 use Rattle.lg_recording.proofs.FieldLaws.{count_field, flag_field, records_field}
 use Rattle.lg_recording.proofs.Parts.{joined, good, read_as, same_ok, stepped, onward}
@@ -88,7 +89,7 @@ reply_field = record { again = reply_again; takes = reply_takes }
 
 -- ---- entries
 
-pub entry_again : (e : Entry) (rest : List ℕ) → IsEntrySpelled e → entry_scan (spelled_entry e ++ rest) ≡ Ok (told_entry e, rest)
+entry_again : (e : Entry) (rest : List ℕ) → IsEntrySpelled e → entry_scan (spelled_entry e ++ rest) ≡ Ok (told_entry e, rest)
 unfolding entry_scan spelled_entry
 entry_again e rest fit =
     let seat : ltb greatest_seat e.seat ≡ false = le-ltb greatest_seat e.seat fit.seat in
@@ -99,7 +100,7 @@ entry_again e rest fit =
       reply_field.again e.reply rest fit.reply,
     ) refl
 
-pub entry_takes : (bytes : List ℕ) (x : Entry × List ℕ) → AllByRecursion IsByte bytes → entry_scan bytes ≡ Ok x
+entry_takes : (bytes : List ℕ) (x : Entry × List ℕ) → AllByRecursion IsByte bytes → entry_scan bytes ≡ Ok x
     → (bytes ≡ spelled_entry x.0 ++ x.1) × IsEntrySpelled x.0 × (told_entry x.0 ≡ x.0)
 unfolding entry_scan spelled_entry
 entry_takes [] x fit e = absurd cc
@@ -118,27 +119,54 @@ entry_takes (seat ∷ bytes) x fit e = judged (ltb greatest_seat seat) refl e
         subst (λ (y : Entry × List ℕ). (seat ∷ bytes ≡ spelled_entry y.0 ++ y.1) × IsEntrySpelled y.0 × (told_entry y.0 ≡ y.0)) (same_ok (whole_entry, reply.rest) x reply.then)
         (whole, record { seat = ltb-false greatest_seat seat is; event = event.fits; reply = reply.fits }, own)
 
+entry_field : IsField spelled_entry told_entry IsEntrySpelled entry_scan
+entry_field = record { again = entry_again; takes = entry_takes }
+
+-- ---- entries with how long the clock stood still before them
+
+pub recorded_again : (x : RecordedEntry) (rest : List ℕ) → IsRecordedSpelled x → recorded_scan (spelled_recorded x ++ rest) ≡ Ok (told_recorded x, rest)
+unfolding recorded_scan spelled_recorded
+recorded_again x rest fit =
+    rw (
+      append_assoc (spelled_entry x.entry) (spelled_count x.stood_still_ms) rest,
+      entry_again x.entry (spelled_count x.stood_still_ms ++ rest) fit.entry,
+      count_field.again x.stood_still_ms rest fit.stood_still,
+    ) refl
+
+abbrev ReadsRecorded : List ℕ → RecordedEntry × List ℕ → Type 0
+ReadsRecorded bytes x = (bytes ≡ spelled_recorded x.0 ++ x.1) × IsRecordedSpelled x.0 × (told_recorded x.0 ≡ x.0)
+
+recorded_takes : (bytes : List ℕ) (x : RecordedEntry × List ℕ) → AllByRecursion IsByte bytes → recorded_scan bytes ≡ Ok x → ReadsRecorded bytes x
+unfolding recorded_scan spelled_recorded
+recorded_takes bytes x fit e =
+    let entry = stepped entry_field (λ entry. count_scan entry.1 >>= λ ms. Ok (with_standstill entry.0 ms.0, ms.1)) bytes x fit e in
+    let ms = stepped count_field (λ ms. Ok (with_standstill entry.value ms.0, ms.1)) entry.rest x entry.are_bytes entry.then in
+    let whole = joined bytes (spelled_entry entry.value) entry.rest (spelled_count ms.value) ms.rest entry.whole ms.whole in
+    subst (λ (y : RecordedEntry × List ℕ). ReadsRecorded bytes y) (same_ok (with_standstill entry.value ms.value, ms.rest) x ms.then)
+    (whole, record { entry = entry.fits; stood_still = ms.fits }, ap (λ (v : Entry). with_standstill v ms.value) entry.own)
+
 -- all of the bytes
-pub whole_again : (e : Entry) → IsEntrySpelled e → entry_of (spelled_entry e) ≡ Ok (told_entry e)
-unfolding entry_of
-whole_again e fit =
-    let all : entry_scan (spelled_entry e) ≡ Ok (told_entry e, []) = ap entry_scan (sym (append-nil (spelled_entry e))) ∙ entry_again e [] fit in
+pub whole_again : (x : RecordedEntry) → IsRecordedSpelled x → recorded_of (spelled_recorded x) ≡ Ok (told_recorded x)
+unfolding recorded_of
+whole_again x fit =
+    let all : recorded_scan (spelled_recorded x) ≡ Ok (told_recorded x, []) = ap recorded_scan (sym (append-nil (spelled_recorded x))) ∙ recorded_again x [] fit in
     rw all refl
 
-pub whole_takes : (body : List ℕ) (e : Entry) → AllByRecursion IsByte body → entry_of body ≡ Ok e
-    → (body ≡ spelled_entry e) × IsEntrySpelled e × (told_entry e ≡ e)
-unfolding entry_of
-whole_takes body e fit k = first (entry_scan body) refl k
-  where
-    ended : (x : Entry × List ℕ) → entry_scan body ≡ Ok x → (end : Bool) → eqb (length x.1) 0 ≡ end → cond end (Ok x.0) (Err faults.Trailing) ≡ Ok e
-        → (body ≡ spelled_entry e) × IsEntrySpelled e × (told_entry e ≡ e)
-    ended x is true end k =
-        let took = entry_takes body x fit is in
-        let nothing : x.1 ≡ [] = nil_from_length x.1 (eqb-true (length x.1) 0 end) in
-        let all : body ≡ spelled_entry x.0 = took.0 ∙ ap (λ (t : List ℕ). spelled_entry x.0 ++ t) nothing ∙ append-nil (spelled_entry x.0) in
-        subst (λ (y : Entry). (body ≡ spelled_entry y) × IsEntrySpelled y × (told_entry y ≡ y)) (same_ok x.0 e k) (all, took.1, took.2)
-    ended x is false end k = absurd cc
+abbrev IsWhole : List ℕ → RecordedEntry → Type 0
+IsWhole body x = (body ≡ spelled_recorded x) × IsRecordedSpelled x × (told_recorded x ≡ x)
 
-    first : (r : Result (Entry × List ℕ) FieldFault) → entry_scan body ≡ r → (r >>= whole_of) ≡ Ok e → (body ≡ spelled_entry e) × IsEntrySpelled e × (told_entry e ≡ e)
-    first (Ok x) is k = ended x is (eqb (length x.1) 0) refl k
+pub whole_takes : (body : List ℕ) (x : RecordedEntry) → AllByRecursion IsByte body → recorded_of body ≡ Ok x → IsWhole body x
+unfolding recorded_of
+whole_takes body x fit k = first (recorded_scan body) refl k
+  where
+    ended : (y : RecordedEntry × List ℕ) → recorded_scan body ≡ Ok y → (end : Bool) → eqb (length y.1) 0 ≡ end → cond end (Ok y.0) (Err faults.Trailing) ≡ Ok x → IsWhole body x
+    ended y is true end k =
+        let took = recorded_takes body y fit is in
+        let nothing : y.1 ≡ [] = nil_from_length y.1 (eqb-true (length y.1) 0 end) in
+        let all : body ≡ spelled_recorded y.0 = took.0 ∙ ap (λ (t : List ℕ). spelled_recorded y.0 ++ t) nothing ∙ append-nil (spelled_recorded y.0) in
+        subst (λ (z : RecordedEntry). IsWhole body z) (same_ok y.0 x k) (all, took.1, took.2)
+    ended y is false end k = absurd cc
+
+    first : (r : Result (RecordedEntry × List ℕ) FieldFault) → recorded_scan body ≡ r → (r >>= whole_of) ≡ Ok x → IsWhole body x
+    first (Ok y) is k = ended y is (eqb (length y.1) 0) refl k
     first (Err f) is k = absurd cc

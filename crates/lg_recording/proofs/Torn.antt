@@ -3,7 +3,6 @@ use Rattle.std.proofs.Common.{◌≡◌, ℕ, zero, suc, ◌+◌, ◌-◌, ◌/�
 use Rattle.std.proofs.lemmas.Bool.{le-ltb, lt-ltb, ltb-true, ltb-false, ne_eqb}
 use Rattle.std.proofs.lemmas.List.{length-append, length-take-le, take-append-le, take_all}
 use Rattle.std.proofs.Math.Seq.{take-append-add}
-use Rattle.lg_history.specs.Meaning.History.{Entry}
 use Rattle.lg_fields.specs.declared.fault.FieldFault.{FieldFault}
 use Rattle.lg_fields.specs.declared.fault.FieldFault.TheVariants as faults
 use Rattle.lg_fields.specs.Meaning.Spelled.{spelled_digits, spelled_count, spelled_text, check_of_body, chunk, IsCountedText}
@@ -11,7 +10,8 @@ use Rattle.lg_fields.specs.Meaning.Scanned.{◌>>=◌, digits_scan, count_scan, 
 use Rattle.lg_fields.proofs.Numbers.{count_again}
 use Rattle.lg_fields.proofs.Texts.{text_again}
 use Rattle.lg_fields.proofs.Chunks.{length-check, chunk_again}
-use Rattle.lg_recording.specs.Meaning.Spelling.{spelled_entry, told_entry, told_entries}
+use Rattle.lg_recording.specs.Meaning.Values.{RecordedEntry}
+use Rattle.lg_recording.specs.Meaning.Spelling.{spelled_recorded, told_recorded, told_entries}
 use Rattle.lg_recording.specs.Meaning.Listing.{entry_chunk, spelled_entries, IsRecordable, AreRecordable, entry_chunk_scan, ListedEntries, listing, listed_before, listed_upto, entries_scan, whole_within, cut_fault}
 use Rattle.lg_recording.proofs.EntryLaws.{whole_again}
 
@@ -104,13 +104,13 @@ chunk_torn body k fit few = split (ltb k (length (spelled_text body))) refl
 
 -- ---- entries
 
-pub entry_chunk_again : (e : Entry) (rest : List ℕ) → IsRecordable e → entry_chunk_scan (entry_chunk e ++ rest) ≡ Ok (told_entry e, rest)
+pub entry_chunk_again : (e : RecordedEntry) (rest : List ℕ) → IsRecordable e → entry_chunk_scan (entry_chunk e ++ rest) ≡ Ok (told_recorded e, rest)
 unfolding entry_chunk_scan
-entry_chunk_again e rest fit = rw (chunk_again (spelled_entry e) rest fit.counted, whole_again e fit.spelled) refl
+entry_chunk_again e rest fit = rw (chunk_again (spelled_recorded e) rest fit.counted, whole_again e fit.spelled) refl
 
-entry_chunk_torn : (e : Entry) (k : ℕ) → IsRecordable e → k < length (entry_chunk e) → entry_chunk_scan (take k (entry_chunk e)) ≡ Err faults.Short
+entry_chunk_torn : (e : RecordedEntry) (k : ℕ) → IsRecordable e → k < length (entry_chunk e) → entry_chunk_scan (take k (entry_chunk e)) ≡ Err faults.Short
 unfolding entry_chunk_scan
-entry_chunk_torn e k fit few = rw (chunk_torn (spelled_entry e) k fit.counted few) refl
+entry_chunk_torn e k fit few = rw (chunk_torn (spelled_recorded e) k fit.counted few) refl
 
 -- one chunk of some bytes is read
 pub upto_one : (n : ℕ) (bytes : List ℕ) → 0 < length bytes → listed_upto (suc n) bytes ≡ listed_before (entry_chunk_scan bytes) (λ rest. listed_upto n rest)
@@ -124,7 +124,7 @@ none_listed zero = refl
 none_listed (suc n) = refl
 
 -- a cut within the first chunk
-torn_here : (e : Entry) (n most : ℕ) (rest : List ℕ) → IsRecordable e → n < length (entry_chunk e) → length (take n (entry_chunk e ++ rest)) ≤ most
+torn_here : (e : RecordedEntry) (n most : ℕ) (rest : List ℕ) → IsRecordable e → n < length (entry_chunk e) → length (take n (entry_chunk e ++ rest)) ≤ most
     → listed_upto most (take n (entry_chunk e ++ rest)) ≡ listing [] (cond (eqb n 0) None (Some faults.Short))
 torn_here e zero most rest fit few enough = none_listed most
 torn_here e (suc n) most rest fit few enough =
@@ -138,28 +138,28 @@ torn_here e (suc n) most rest fit few enough =
     begun (suc m) many some =
         let more : eqb (suc n) 0 ≡ false = ne_eqb (suc n) 0 (λ (h : suc n ≡ 0). omega (arith, h)) in
         upto_one m (take (suc n) (entry_chunk e)) some
-        ∙ ap (λ (r : Result (Entry × List ℕ) FieldFault). listed_before r (λ rest. listed_upto m rest)) (entry_chunk_torn e (suc n) fit few)
+        ∙ ap (λ (r : Result (RecordedEntry × List ℕ) FieldFault). listed_before r (λ rest. listed_upto m rest)) (entry_chunk_torn e (suc n) fit few)
         ∙ ap (λ (b : Bool). listing [] (cond b None (Some faults.Short))) (sym more)
 
 -- a cut behind the first chunk
-went_on : (e : Entry) (n most : ℕ) (rest : List ℕ) (others : ListedEntries) → IsRecordable e → length (entry_chunk e) ≤ n → length (take n (entry_chunk e ++ rest)) ≤ most
+went_on : (e : RecordedEntry) (n most : ℕ) (rest : List ℕ) (others : ListedEntries) → IsRecordable e → length (entry_chunk e) ≤ n → length (take n (entry_chunk e ++ rest)) ≤ most
     → ((k : ℕ) → length (take (n - length (entry_chunk e)) rest) ≤ k → listed_upto k (take (n - length (entry_chunk e)) rest) ≡ others)
-    → listed_upto most (take n (entry_chunk e ++ rest)) ≡ listing (told_entry e ∷ others.entries) others.fault
+    → listed_upto most (take n (entry_chunk e ++ rest)) ≡ listing (told_recorded e ∷ others.entries) others.fault
 went_on e n most rest others fit past enough later =
     let same : take n (entry_chunk e ++ rest) ≡ entry_chunk e ++ take (n - length (entry_chunk e)) rest = take_behind n (entry_chunk e) rest past in
-    let some : 0 < length (entry_chunk e) = chunk_some (spelled_entry e) in
+    let some : 0 < length (entry_chunk e) = chunk_some (spelled_recorded e) in
     let sum : length (entry_chunk e ++ take (n - length (entry_chunk e)) rest) ≡ length (entry_chunk e) + length (take (n - length (entry_chunk e)) rest) = length-append (entry_chunk e) (take (n - length (entry_chunk e)) rest) in
     let many : length (entry_chunk e) + length (take (n - length (entry_chunk e)) rest) ≤ most = subst (λ (m : ℕ). m ≤ most) (ap length same ∙ sum) enough in
     ap (λ (bytes : List ℕ). listed_upto most bytes) same
     ∙ begun most (take (n - length (entry_chunk e)) rest) some sum many later
   where
     begun : (most : ℕ) (left : List ℕ) → 0 < length (entry_chunk e) → length (entry_chunk e ++ left) ≡ length (entry_chunk e) + length left → length (entry_chunk e) + length left ≤ most
-        → ((k : ℕ) → length left ≤ k → listed_upto k left ≡ others) → listed_upto most (entry_chunk e ++ left) ≡ listing (told_entry e ∷ others.entries) others.fault
+        → ((k : ℕ) → length left ≤ k → listed_upto k left ≡ others) → listed_upto most (entry_chunk e ++ left) ≡ listing (told_recorded e ∷ others.entries) others.fault
     begun zero left some sum many later = absurd (omega (arith, some, many))
     begun (suc m) left some sum many later =
         upto_one m (entry_chunk e ++ left) (omega (arith, some, sum))
-        ∙ ap (λ (r : Result (Entry × List ℕ) FieldFault). listed_before r (λ rest. listed_upto m rest)) (entry_chunk_again e left fit)
-        ∙ ap (λ (l : ListedEntries). listing (told_entry e ∷ l.entries) l.fault) (later m (omega (arith, some, many)))
+        ∙ ap (λ (r : Result (RecordedEntry × List ℕ) FieldFault). listed_before r (λ rest. listed_upto m rest)) (entry_chunk_again e left fit)
+        ∙ ap (λ (l : ListedEntries). listing (told_recorded e ∷ l.entries) l.fault) (later m (omega (arith, some, many)))
 
 abbrev no_bytes : List ℕ
 no_bytes = []
@@ -169,7 +169,7 @@ take_nil zero = refl
 take_nil (suc n) = refl
 
 -- entries that end after n bytes, read in at least as many steps as there are bytes
-upto_torn : (es : List Entry) (n most : ℕ) → AreRecordable es → length (take n (spelled_entries es)) ≤ most
+upto_torn : (es : List RecordedEntry) (n most : ℕ) → AreRecordable es → length (take n (spelled_entries es)) ≤ most
     → listed_upto most (take n (spelled_entries es)) ≡ listing (told_entries (whole_within n es)) (cut_fault n es)
 upto_torn [] n most fit enough = ap (λ (bytes : List ℕ). listed_upto most bytes) (take_nil n) ∙ none_listed most
 upto_torn (e ∷ es) n most fit enough =
@@ -185,34 +185,34 @@ upto_torn (e ∷ es) n most fit enough =
         went_on e n most (spelled_entries es) (listing (told_entries (whole_within (n - length (entry_chunk e)) es)) (cut_fault (n - length (entry_chunk e)) es)) fit.0
         (ltb-false n (length (entry_chunk e)) is) enough later
 
-pub entries_torn : (es : List Entry) (n : ℕ) → AreRecordable es → entries_scan (take n (spelled_entries es)) ≡ listing (told_entries (whole_within n es)) (cut_fault n es)
+pub entries_torn : (es : List RecordedEntry) (n : ℕ) → AreRecordable es → entries_scan (take n (spelled_entries es)) ≡ listing (told_entries (whole_within n es)) (cut_fault n es)
 entries_torn es n fit = upto_torn es n (length (take n (spelled_entries es))) fit (omega arith)
 
 -- all of the bytes
-all_within : (es : List Entry) (n : ℕ) → length (spelled_entries es) ≤ n → (whole_within n es ≡ es) × (cut_fault n es ≡ None)
+all_within : (es : List RecordedEntry) (n : ℕ) → length (spelled_entries es) ≤ n → (whole_within n es ≡ es) × (cut_fault n es ≡ None)
 all_within [] n enough = (refl, refl)
 all_within (e ∷ es) n enough =
     let sum = length-append (entry_chunk e) (spelled_entries es) in
     let past : ltb n (length (entry_chunk e)) ≡ false = le-ltb n (length (entry_chunk e)) (omega (arith, enough, sum)) in
     let others = all_within es (n - length (entry_chunk e)) (omega (arith, enough, sum)) in (
-      ap (λ (b : Bool). cond b [] (e ∷ whole_within (n - length (entry_chunk e)) es)) past ∙ ap (λ (xs : List Entry). e ∷ xs) others.0,
+      ap (λ (b : Bool). cond b [] (e ∷ whole_within (n - length (entry_chunk e)) es)) past ∙ ap (λ (xs : List RecordedEntry). e ∷ xs) others.0,
       ap (λ (b : Bool). cond b (cond (eqb n 0) None (Some faults.Short)) (cut_fault (n - length (entry_chunk e)) es)) past ∙ others.1,
     )
 
-pub entries_whole : (es : List Entry) → AreRecordable es → entries_scan (spelled_entries es) ≡ listing (told_entries es) None
+pub entries_whole : (es : List RecordedEntry) → AreRecordable es → entries_scan (spelled_entries es) ≡ listing (told_entries es) None
 entries_whole es fit =
     let within = all_within es (length (spelled_entries es)) (omega arith) in
     let all : take (length (spelled_entries es)) (spelled_entries es) ≡ spelled_entries es = take_all (length (spelled_entries es)) (spelled_entries es) (omega arith) in
     ap entries_scan (sym all) ∙ entries_torn es (length (spelled_entries es)) fit
-    ∙ ap (λ (xs : List Entry). listing (told_entries xs) (cut_fault (length (spelled_entries es)) es)) within.0
+    ∙ ap (λ (xs : List RecordedEntry). listing (told_entries xs) (cut_fault (length (spelled_entries es)) es)) within.0
     ∙ ap (λ (f : Option FieldFault). listing (told_entries es) f) within.1
 
 -- the entries that are there whole are a front of all
-pub whole_front : (es : List Entry) (n : ℕ) → (rest : List Entry) × (whole_within n es ++ rest ≡ es)
+pub whole_front : (es : List RecordedEntry) (n : ℕ) → (rest : List RecordedEntry) × (whole_within n es ++ rest ≡ es)
 whole_front [] n = ([], refl)
 whole_front (e ∷ es) n = decided (ltb n (length (entry_chunk e))) (whole_front es (n - length (entry_chunk e)))
   where
-    decided : (early : Bool) → (rest : List Entry) × (whole_within (n - length (entry_chunk e)) es ++ rest ≡ es)
-        → (rest : List Entry) × (cond early [] (e ∷ whole_within (n - length (entry_chunk e)) es) ++ rest ≡ e ∷ es)
+    decided : (early : Bool) → (rest : List RecordedEntry) × (whole_within (n - length (entry_chunk e)) es ++ rest ≡ es)
+        → (rest : List RecordedEntry) × (cond early [] (e ∷ whole_within (n - length (entry_chunk e)) es) ++ rest ≡ e ∷ es)
     decided true others = (e ∷ es, refl)
-    decided false others = (others.0, ap (λ (xs : List Entry). e ∷ xs) others.1)
+    decided false others = (others.0, ap (λ (xs : List RecordedEntry). e ∷ xs) others.1)

@@ -1,4 +1,5 @@
 -- What is right: whoever wants to believe the contracts reads these.
+pub mod Values
 pub mod Spelling
 pub mod Fitting
 pub mod Scanning

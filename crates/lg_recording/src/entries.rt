@@ -5,30 +5,36 @@
 ghost use Rattle.std.specs.Prelude.{◌≡◌};
 ghost use Rattle.lg_fields.specs.Support.Scans.{Scans};
 ghost use Rattle.lg_recording.specs.Meaning.Listing.{entry_chunk_scan};
-ghost use Rattle.lg_recording.specs.Meaning.Next.{GivesNext, entry_in};
-ghost use Rattle.lg_recording.specs.Meaning.Scanning.{entry_of, entry_scan};
+ghost use Rattle.lg_recording.specs.Meaning.Next.{GivesNext, recorded_in};
+ghost use Rattle.lg_recording.specs.Meaning.Scanning.{recorded_of, recorded_scan};
 
 use crate::reading::{read_event, read_reply, read_seat};
 use crate::recorded::Recorded;
 use lg_fields::{FieldFault, FieldReader};
 
 /// Reads the parts of an entry.
-#[tactic(auto, unfolding(crate::specs::Meaning::Scanning::entry_scan))]
+#[tactic(auto, unfolding(crate::specs::Meaning::Scanning::entry_scan, crate::specs::Meaning::Scanning::recorded_scan))]
 fn read_parts(reader: &mut FieldReader<'_>) -> Result<Recorded, FieldFault>
-    ensures { Scans (λ x. (entry_in x, reader.new.rest.now)) result (entry_scan reader.old.rest.now) }
+    ensures { Scans (λ x. (recorded_in x, reader.new.rest.now)) result (recorded_scan reader.old.rest.now) }
 {
     let seat = read_seat(reader)?;
     let event = read_event(reader)?;
     let reply = read_reply(reader)?;
-    Ok(Recorded { seat, event, reply })
+    let stood_still_ms = reader.count()?;
+    Ok(Recorded {
+        seat,
+        event,
+        reply,
+        stood_still_ms,
+    })
 }
 
 /// Reads an entry that takes up all of a body. Allocates nothing.
 ///
 /// The error is the first fault from the left, and [`FieldFault::Trailing`] if the body goes on behind its entry.
-#[tactic(auto, unfolding(crate::specs::Meaning::Scanning::entry_of))]
+#[tactic(auto, unfolding(crate::specs::Meaning::Scanning::recorded_of))]
 pub fn read_entry(body: &[u8]) -> Result<Recorded, FieldFault>
-    ensures { Scans entry_in result (entry_of body.now) }
+    ensures { Scans recorded_in result (recorded_of body.now) }
 {
     let mut reader = FieldReader { rest: body };
     let entry = read_parts(&mut reader)?;
@@ -41,7 +47,7 @@ pub fn read_entry(body: &[u8]) -> Result<Recorded, FieldFault>
 /// Reads the chunk of an entry.
 #[tactic(auto, unfolding(crate::specs::Meaning::Listing::entry_chunk_scan))]
 fn read_chunk(reader: &mut FieldReader<'_>) -> Result<Recorded, FieldFault>
-    ensures { Scans (λ x. (entry_in x, reader.new.rest.now)) result (entry_chunk_scan reader.old.rest.now) }
+    ensures { Scans (λ x. (recorded_in x, reader.new.rest.now)) result (entry_chunk_scan reader.old.rest.now) }
 {
     let body = reader.chunk()?;
     read_entry(body)

@@ -7,9 +7,11 @@ ghost use Rattle.std.specs.List.{flat_map};
 ghost use Rattle.lg_packet.specs.Meaning.Spelling.{spelled_name};
 ghost use Rattle.lg_history.specs.Meaning.History.{entry};
 ghost use Rattle.lg_fields.specs.Meaning.Spelled.{chunk, spelled_count};
+ghost use Rattle.lg_recording.specs.Meaning.Listing.{entry_chunk};
 ghost use Rattle.lg_recording.specs.Meaning.Spelling.{spelled_answer, spelled_entry, spelled_event, spelled_fired};
-ghost use Rattle.lg_recording.specs.Meaning.Spelling.{spelled_names, spelled_reply, spelled_send, spelled_sends};
-ghost use Rattle.lg_recording.specs.Meaning.Spelling.{spelled_subject, spelled_words};
+ghost use Rattle.lg_recording.specs.Meaning.Spelling.{spelled_names, spelled_recorded, spelled_reply, spelled_send};
+ghost use Rattle.lg_recording.specs.Meaning.Spelling.{spelled_sends, spelled_subject, spelled_words};
+ghost use Rattle.lg_recording.specs.Meaning.Values.{with_standstill};
 
 use arrayvec::ArrayVec;
 use lg_detector::{Answer, Event, NoMemory, Outgoing, Reply, Timer, TimerId};
@@ -226,9 +228,9 @@ fn put_reply(reply: &Reply, row: &mut PacketRow, out: &mut Vec<u8>) -> Result<()
     Ok(())
 }
 
-/// Appends the body of an entry.
+/// Appends an entry alone.
 #[tactic(auto, unfolding(crate::specs::Meaning::Spelling::spelled_entry))]
-fn put_body(
+fn put_alone(
     seat: usize,
     event: &Event,
     reply: &Reply,
@@ -241,6 +243,24 @@ fn put_body(
     put_byte(seat as u8, out)?;
     put_event(event, row, out)?;
     put_reply(reply, row, out)
+}
+
+/// Appends the body of an entry.
+#[tactic(auto, unfolding(crate::specs::Meaning::Spelling::spelled_recorded))]
+fn put_body(
+    seat: usize,
+    event: &Event,
+    reply: &Reply,
+    stood_still_ms: u64,
+    row: &mut PacketRow,
+    out: &mut Vec<u8>,
+) -> Result<(), NoMemory>
+    requires { seat ≤ MAX_SEAT }
+    ensures { OnOk result (out.new.items
+        ≡ out.old.items ++ spelled_recorded (with_standstill (entry seat event.now reply.now) stood_still_ms)) }
+{
+    put_alone(seat, event, reply, row, out)?;
+    put_count(stood_still_ms, out)
 }
 
 /// Appends the chunk of a body.
@@ -256,8 +276,9 @@ pub(crate) fn put_whole(body: &[u8], out: &mut Vec<u8>) -> Result<(), NoMemory>
     done
 }
 
-/// Appends an entry: the chunk whose body spells its seat, 0 to [`MAX_SEAT`], its event and its reply. Each packet is
-/// written as what its version can tell.
+/// Appends an entry: the chunk whose body spells its seat, 0 to [`MAX_SEAT`], its event and its reply, and for how many
+/// milliseconds the node's clock stood still since the entries that were taken before it. Each packet is written as
+/// what its version can tell.
 ///
 /// What the buffers hold before or after doesn't matter. Memory is allocated only if they or the text have to grow. The
 /// only error is that memory was refused. The text then holds what it held before, though it may have room for more.
@@ -265,15 +286,23 @@ pub fn put_entry(
     seat: usize,
     event: &Event,
     reply: &Reply,
+    stood_still_ms: u64,
     buffers: &mut EntryBuffers,
     out: &mut Vec<u8>,
 ) -> Result<(), NoMemory>
     requires { seat ≤ MAX_SEAT }
-    ensures put { OnOk result
-        (out.new.items ≡ out.old.items ++ chunk (spelled_entry (entry seat event.now reply.now))) }
+    ensures put { OnOk result (out.new.items
+        ≡ out.old.items ++ entry_chunk (with_standstill (entry seat event.now reply.now) stood_still_ms)) }
     ensures refused { OnErr result (out.new.items ≡ out.old.items) }
 {
     buffers.body.clear();
-    put_body(seat, event, reply, &mut buffers.row, &mut buffers.body)?;
+    put_body(
+        seat,
+        event,
+        reply,
+        stood_still_ms,
+        &mut buffers.row,
+        &mut buffers.body,
+    )?;
     put_whole(buffers.body.as_slice(), out)
 }

@@ -1,6 +1,6 @@
 //! Entries that are written and read back: whole, cut off at each byte, and with each byte changed.
 
-use crate::samples::{SAMPLES, SMALL, sample};
+use crate::samples::{SAMPLES, SMALL, STOOD_STILL, sample};
 use lg_detector::{Answer, Event, Reply};
 use lg_fields::FieldFault;
 use lg_recording::{Entries, EntryBuffers, put_entry, put_start, read_start};
@@ -12,7 +12,7 @@ use std::test::Fail;
 fn put_sample(number: usize, buffers: &mut EntryBuffers, out: &mut Vec<u8>) -> Result<(), Fail> {
     let (seat, event, reply) = sample(number);
     if seat <= 32 {
-        put_entry(seat, &event, &reply, buffers, out)?;
+        put_entry(seat, &event, &reply, STOOD_STILL[number], buffers, out)?;
     }
     Ok(())
 }
@@ -43,7 +43,8 @@ fn listed(bytes: &[u8]) -> (usize, Option<FieldFault>) {
     (count, None)
 }
 
-/// Whether what is read of the sample with this number is written as the same bytes.
+/// Whether what is read of the sample with this number is written as the same bytes, and has for how long the clock
+/// stood still.
 fn is_written_again(alloc: Global, number: usize) -> Result<bool, Fail> {
     let mut buffers = EntryBuffers::new(alloc);
     let mut out = Vec::new(alloc);
@@ -55,11 +56,15 @@ fn is_written_again(alloc: Global, number: usize) -> Result<bool, Fail> {
     let Some(Ok(entry)) = entries.next_entry() else {
         return Ok(false);
     };
+    if entry.stood_still_ms != STOOD_STILL[number] {
+        return Ok(false);
+    }
     if entry.seat <= 32 {
         put_entry(
             entry.seat,
             &entry.event,
             &entry.reply,
+            entry.stood_still_ms,
             &mut buffers,
             &mut again,
         )?;
@@ -98,14 +103,22 @@ fn reads_what_was_written(rt: HostRuntime) -> Result<(), Fail> {
 }
 
 /// The event Health at 20 of the seat 1, answered by the score 0, the incarnation 2 and three members, with the next
-/// deadline 1000, as RECORDINGS has it. The digest is that of the module `hashlib` of Python.
-const HEALTH: &[u8] =
-    b"\x11\x01\x05\x14\x00\x00\x00\x00\x03\x00\x00\x00\x00\x02\x03\x00\xe8\x07\xc7\x43\x09\xf9";
+/// deadline 1000, as RECORDINGS has it: if the clock didn't stand still, and if it did for 1500 ms. The digests are
+/// those of the module `hashlib` of Python.
+const HEALTH: [(u64, &[u8]); 2] = [
+    (
+        0,
+        b"\x12\x01\x05\x14\x00\x00\x00\x00\x03\x00\x00\x00\x00\x02\x03\x00\xe8\x07\x00\x0b\xe1\xfe\x65",
+    ),
+    (
+        1500,
+        b"\x13\x01\x05\x14\x00\x00\x00\x00\x03\x00\x00\x00\x00\x02\x03\x00\xe8\x07\xdc\x0b\x9a\x9d\x3d\xed",
+    ),
+];
 
 #[test]
 fn writes_the_format(rt: HostRuntime) -> Result<(), Fail> {
     let mut buffers = EntryBuffers::new(rt.alloc());
-    let mut out = Vec::new(rt.alloc());
     let mut reply = Reply::default();
     reply.answer = Some(Answer::Health {
         score: 0,
@@ -113,14 +126,12 @@ fn writes_the_format(rt: HostRuntime) -> Result<(), Fail> {
         members: 3,
     });
     reply.next = 1000;
-    put_entry(
-        1,
-        &Event::Health { now: at(20) },
-        &reply,
-        &mut buffers,
-        &mut out,
-    )?;
-    assert_eq!(rt; out.as_slice(), HEALTH);
+    let event = Event::Health { now: at(20) };
+    for (stood_still_ms, bytes) in HEALTH {
+        let mut out = Vec::new(rt.alloc());
+        put_entry(1, &event, &reply, stood_still_ms, &mut buffers, &mut out)?;
+        assert_eq!(rt; out.as_slice(), bytes);
+    }
     Ok(())
 }
 

@@ -15,6 +15,21 @@ pub(crate) const SAMPLES: usize = 11;
 /// From this one on they are short.
 pub(crate) const SMALL: usize = 6;
 
+/// For how many milliseconds the clock stood still before each.
+pub(crate) const STOOD_STILL: [u64; SAMPLES] = [
+    0,
+    1,
+    127,
+    128,
+    1500,
+    16_383,
+    16_384,
+    86_400_000,
+    1_000_000_000_000_000,
+    9_223_372_036_854_775_808,
+    18_446_744_073_709_551_615,
+];
+
 /// Random words.
 const WORDS: [u32; 8] = [0, 1, 2, 0x8000_0000, 0xffff_ffff, 5, 6, 7];
 

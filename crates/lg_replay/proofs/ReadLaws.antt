@@ -11,7 +11,8 @@ use Rattle.lg_heads.specs.declared.head.Head.{Head}
 use Rattle.lg_heads.specs.Meaning.Heads.{HeadValue, head_value}
 use Rattle.lg_heads.specs.Support.Reads.{Reads}
 use Rattle.lg_recording.specs.Meaning.Listing.{entries_scan, listing}
-use Rattle.lg_recording.specs.Meaning.Next.{GivesNext, entry_in}
+use Rattle.lg_recording.specs.Meaning.Next.{GivesNext, recorded_in}
+use Rattle.lg_recording.specs.Meaning.Values.{entries_alone}
 use Rattle.lg_recording.specs.declared.recorded.Recorded.{Recorded}
 use Rattle.lg_recording.proofs.Steps.{last_step, no_step, one_step}
 use Rattle.lg_replay.specs.declared.known.Known.{Known}
@@ -35,10 +36,10 @@ pub none_read : (bytes left : List ℕ) → GivesNext bytes left None → entrie
 none_read bytes left gives = ap entries_scan gives.0 ∙ no_step
 
 pub one_read : (bytes left : List ℕ) (read : Result Recorded FieldFault) (x : Recorded) → AllByRecursion IsByte bytes → read ≡ Ok x → GivesNext bytes left (Some read)
-    → entries_scan bytes ≡ listing (entry_in x ∷ (entries_scan left).entries) (entries_scan left).fault
+    → entries_scan bytes ≡ listing (recorded_in x ∷ (entries_scan left).entries) (entries_scan left).fault
 one_read bytes left read x fit is gives =
     let given = subst (λ (r : Result Recorded FieldFault). GivesNext bytes left (Some r)) is gives in
-    one_step bytes left (entry_in x) fit given.1
+    one_step bytes left (recorded_in x) fit given.1
 
 pub fault_read : (bytes left : List ℕ) (read : Result Recorded FieldFault) (fault : FieldFault) → read ≡ Err fault → GivesNext bytes left (Some read)
     → entries_scan bytes ≡ listing [] (Some fault)
@@ -77,7 +78,7 @@ read_went old now new k text t1 t2 longer window number head bytes fault line en
   writes = λ life verdicts come.
       let from = life_from head.first life in
       let known = enters life come.known in
-      let all = entries_text window head.first from (entries_scan bytes).entries (entries_scan bytes).fault in
+      let all = entries_text window head.first from (entries_alone (entries_scan bytes).entries) (entries_scan bytes).fault in
       let here = gap_text head.first from.past in
       (runs from verdicts (record { known = known; counts = come.counts })).writes
       ∙ ap (λ (t : List ℕ). t ++ all) (gap ∙ ap (λ (g : List ℕ). t1 ++ g) (gap_is k from.past head.first known.past) ∙ ap (λ (t : List ℕ). t ++ here) line)

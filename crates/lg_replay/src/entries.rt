@@ -51,8 +51,9 @@ impl Buffers {
         }
     }
 
-    /// The verdict on an entry, by the reply that is due. The error, which is that of refused memory, comes too if the
-    /// seat is above [`MAX_SEAT`], which that of no entry is that was read.
+    /// The verdict on an entry, by the reply that is due. Both are written as if the clock didn't stand still. The
+    /// error, which is that of refused memory, comes too if the seat is above [`MAX_SEAT`], which that of no entry is
+    /// that was read.
     #[tactic(auto, unfolding(crate::specs::Meaning::Verdicts::verdict_by))]
     fn judge(
         &mut self,
@@ -71,11 +72,12 @@ impl Buffers {
             seat,
             event,
             recorded,
+            0,
             &mut self.spelling,
             &mut self.recorded,
         )?;
         self.due.clear();
-        put_entry(seat, event, due, &mut self.spelling, &mut self.due)?;
+        put_entry(seat, event, due, 0, &mut self.spelling, &mut self.due)?;
         if self.recorded.as_slice() == self.due.as_slice() {
             Ok(Verdict::Same)
         } else {

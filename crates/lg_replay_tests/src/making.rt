@@ -117,6 +117,11 @@ pub(crate) fn put_beginning(
     Ok(())
 }
 
+/// For how many milliseconds the clock stood still before the event with a number. No line of a replay tells it.
+fn stood_still_before(number: usize) -> u64 {
+    [0, 1500, 0, 127, 0, u64::MAX][number.min(EVENTS - 1)]
+}
+
 /// A file of the events from one to before another of a life. The reply to the event `changed` has another deadline.
 pub(crate) fn file(
     alloc: Global,
@@ -143,6 +148,7 @@ pub(crate) fn file(
                 usize::from(number > 0),
                 &event,
                 &reply,
+                stood_still_before(number),
                 &mut buffers,
                 &mut out,
             )?;

@@ -23,7 +23,7 @@ use crate::told::Told;
 use crate::wishes::{Wishes, end_wished, is_announced};
 use crate::words::{link_reason, start_line};
 use arrayvec::ArrayVec;
-use lg_config::NodeConfig;
+use lg_config::{FilePath, NodeConfig};
 use lg_lines::put_table;
 use lg_loops::NodeLoops;
 use lg_node::{NodeEnd, NodeFault, NodeStart, ResolvedSeeds, Settings, run_node};
@@ -62,8 +62,8 @@ use std::thread::Threads;
 /// told by [`Told::Memory`], and nothing is run.
 ///
 /// If `record` names a folder, a thread of its own records the node there ([`NodeRecord`](lg_batches::NodeRecord)), and
-/// tells on a stream of faults of its own what isn't recorded. Memory that is refused for the path is told by
-/// [`Told::Memory`], and nothing is run.
+/// tells on a stream of faults of its own what isn't recorded. Its status server tells what the newest files there have
+/// of a member. Memory that is refused for the path is told by [`Told::Memory`], and nothing is run.
 ///
 /// A node that follows, or that no time ends, is announced by a line on `faults` before it starts: who runs where, with
 /// which file if one is named, in which version it writes its packets, and how many seeds it has. Memory that is
@@ -97,6 +97,8 @@ where
         + FaultStreams
         + RecordFolders,
     R: Net<Listener = TcpListener, Stream = TcpStream> + Copy + Send + Sync + 'static,
+    R::File: Send,
+    R::Dir: Send,
     W: Write + Send,
     F: FaultStream + Send,
     ensures { RunsBytes writer.old writer.new (W.contents writer.old) (W.contents writer.new)
@@ -140,6 +142,16 @@ where
     status
 }
 
+/// The folder of a node's recording, if its configuration names one.
+fn folder_of(node: &NodeConfig) -> Option<FilePath>
+    ensures { result ≡ node.now.record_folder }
+{
+    match &node.record_folder {
+        Some(folder) => Some(folder.copy()),
+        None => None,
+    }
+}
+
 /// The settings of a node: what its configuration says, with these keys, and whether it follows.
 fn settings_of(node: &NodeConfig, keys: Option<Keys>, follow: bool) -> Settings
     ensures { result ≡ node_settings node.now keys follow }
@@ -159,6 +171,7 @@ fn settings_of(node: &NodeConfig, keys: Option<Keys>, follow: bool) -> Settings
         status: node.status,
         status_open: node.status_open,
         leave: node.leave,
+        record_folder: folder_of(node),
         keys,
     }
 }

@@ -1,2 +1,3 @@
 pub mod ActLaws
+pub mod ExplainLaws
 pub mod ShownLaws

@@ -28,7 +28,7 @@ use Rattle.lg_status_server.specs.declared.looked.Looked.{Looked}
 use Rattle.lg_status_server.specs.declared.looked.Looked.TheVariants.{Same, Taken, Refused}
 use Rattle.lg_status_server.specs.declared.reading.Reading.{Reading}
 use Rattle.lg_status_server.specs.Meaning.Readings.{HasRead}
-use Rattle.lg_status_server.specs.Meaning.Shown.{IsNewest, ShowsEvents, IsShown, SiteShows, SiteValue, IsAnswerOf, IsLater}
+use Rattle.lg_status_server.specs.Meaning.Shown.{IsNewest, ShowsEvents, IsShown, SiteShows, SiteValue, IsShownAnswer, IsLater}
 use Rattle.lg_status_server.specs.Support.Showing.{IsSite, SameLook, SameReading, KeepsOn, TakesLook, LeavesLook, LooksAs}
 
 prefix_short : (xs ys : List Event) → IsPrefix xs ys → length xs ≤ length ys
@@ -91,10 +91,10 @@ abbrev TellsLast : Changes → ℕ → Type 0
 TellsLast ring changed = (all : List Change) → KeepsNewest ring all → changed ≡ last_version all
 
 -- What a site shows after its first look.
-pub shows_first : (pass : PassValue) (name : List ℕ) (config : ShownConfig) (leave : Bool) (snapshot : Snapshot) (changes : Changes) (changed : ℕ)
+pub shows_first : (pass : PassValue) (name : List ℕ) (config : ShownConfig) (leave : Bool) (folder : Option (List ℕ)) (snapshot : Snapshot) (changes : Changes) (changed : ℕ)
     → is_accepted pass.seen ≡ true → IsShown snapshot name pass.seen → KeepsNewest changes (changes_of pass.seen) → TellsLast changes changed
-    → SiteShows (record { pass = pass; name = name; snapshot = snapshot; changes = changes; config = config; leave = leave; changed = changed; looked = Taken }) pass.seen
-shows_first pass name config leave snapshot changes changed accepted shown kept tells = record {
+    → SiteShows (record { pass = pass; name = name; snapshot = snapshot; changes = changes; config = config; leave = leave; folder = folder; changed = changed; looked = Taken }) pass.seen
+shows_first pass name config leave folder snapshot changes changed accepted shown kept tells = record {
   accepted = accepted;
   begins = prefix_itself pass.seen;
   is_shown = shown;
@@ -231,6 +231,7 @@ later_look r site p' s' new c' changed' reading is went tells same read = record
   name_is = refl;
   config_is = refl;
   leave_is = refl;
+  folder_is = refl;
 }
 
 pub site_look : (r : Looked) (site : SiteValue) (p' : PassValue) (s' new : Snapshot) (c' : Changes) (changed' : ℕ) (reading : Reading)
@@ -268,7 +269,7 @@ rows_fit rows r site p' s' c' are is went = rows_of rows are ∙ sym (rows_look 
 -- an answer made of what a site has, whatever events it shows
 pub answered : (site : SiteValue) (path : List ℕ) (query : Option (List ℕ)) (result : Result HttpAnswer AllocError) → IsSite site
     → ((all : List Change) → KeepsNewest site.changes all → IfOk result (λ answer. answer_value answer ≡ answer_to site.snapshot all site.config path query))
-    → IfOk result (λ answer. IsAnswerOf site path query answer)
+    → IfOk result (λ answer. IsShownAnswer site path query answer)
 answered site path query (Ok answer) is makes = record {
   shown = is.0;
   shows = is.1;

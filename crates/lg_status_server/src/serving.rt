@@ -3,6 +3,7 @@
 //! Defined in: `specs/Meaning/Served.antt`, `specs/Meaning/Shown.antt`, `lg_http/specs/Meaning/Slots.antt`.
 //! Tested in: `cases/status`.
 ghost use Rattle.std.specs.Prelude.{◌≡◌, IfOk};
+ghost use Rattle.std.specs.Option.{option_map};
 ghost use Rattle.lg_follow.specs.Meaning.Sights.{OnlyLooked};
 ghost use Rattle.lg_http.specs.Meaning.Slots.{AreFree, slots_of};
 ghost use Rattle.lg_status_server.specs.Meaning.Served.{ServedAs, served_line};
@@ -13,6 +14,7 @@ use lg_clock::Clock;
 use lg_http::{Desk, Hosts, Listener, Server, ServerCounts, ServerEnd, Signal};
 use lg_rules::Addr;
 use std::alloc::Global;
+use std::fs::Files;
 use std::io::ErrorKind;
 use std::net::{Net, SocketAddr};
 use std::random::RandomSource;
@@ -59,17 +61,22 @@ pub fn bind(
 
 /// Serves what a node shows until the signal tells the server to stop, by looks of a pass, which it gives back. The
 /// machine's clock is for the deadlines of connections: they go on while the node stands still.
-pub fn serve<'p, A: AgentName, C: Clock, M: Clock>(
+pub fn serve<'p, A, C, R, M>(
     server: &mut Server,
     signal: &Signal,
     machine: &M,
     pass: Pass<'p, A>,
-    basis: SiteBasis<'_, C>,
+    basis: SiteBasis<'_, C, R>,
     hosts: Hosts,
 ) -> (Pass<'p, A>, Served)
+where
+    A: AgentName,
+    C: Clock,
+    R: Files + AllocGlobal + Clone + Drop,
+    M: Clock,
     ensures looked { OnlyLooked pass.entry result.0 }
-    ensures served { ServedAs result.1 basis.entry.counters.now.name basis.entry.config basis.entry.leave hosts
-        pass.entry result.0 server.old server.new }
+    ensures served { ServedAs result.1 basis.entry.counters.now.name basis.entry.config basis.entry.leave
+        (option_map (λ f. f.now) basis.entry.folder) hosts pass.entry result.0 server.old server.new }
 {
     let alloc = basis.alloc;
     let site = match NodeSite::new(pass, basis) {

@@ -4,6 +4,7 @@
 //! `lg_answers/specs/Meaning/Answers.antt`.
 //! Tested in: `lg_answers_tests/src/showing.rt`, `cases/status`.
 ghost use Rattle.std.specs.Prelude.{◌≡◌, ◌⊎◌, [], List, IfErr, IfOk, MatchResult};
+ghost use Rattle.std.specs.Option.{option_map};
 ghost use Rattle.lg_changes.specs.Meaning.Kept.{KeepsNewest};
 ghost use Rattle.lg_detector.specs.declared.event.Event.{Event as Happened};
 ghost use Rattle.lg_agent.specs.declared.refusal.Refusal.TheVariants.{NoMemory, NoView};
@@ -13,6 +14,7 @@ ghost use Rattle.lg_follow.specs.Meaning.Sights.{OnlyLooked};
 ghost use Rattle.lg_status_server.specs.Meaning.Readings.{HasRead};
 ghost use Rattle.lg_status_server.specs.Meaning.Shown.{IsFirst, IsLater, IsShown};
 
+use crate::explaining::explain;
 use crate::leaving::act;
 use crate::looked::{Looked, look, show};
 use crate::reading::Reading;
@@ -26,12 +28,15 @@ use lg_http::{HttpAnswer, OtherRequest, Site, Wait};
 use lg_rules::Incarnation;
 use lg_view::{Published, Update};
 use std::alloc::{AllocError, Global};
+use std::fs::Files;
 use std::marker::Model;
 use std::sync::atomic::AtomicBool;
 
 /// What a site is made of besides its pass.
 #[derive(Drop)]
-pub struct SiteBasis<'n, C> {
+pub struct SiteBasis<'n, C, R> {
+    /// The machine, whose files are those of the recording.
+    pub rt: &'n R,
     /// From it come the memory of a look and that of an answer.
     pub alloc: Global,
     /// The clock of the node, whose moments are shown.
@@ -44,6 +49,8 @@ pub struct SiteBasis<'n, C> {
     pub stop: &'n AtomicBool,
     /// Whether the node may be asked to leave over HTTP.
     pub leave: bool,
+    /// The folder of the node's recording, if it has one.
+    pub folder: Option<&'n str>,
 }
 
 /// What a node shows to those who ask it over HTTP, by looks of a pass. It takes no lock. A call that
@@ -55,12 +62,12 @@ pub struct SiteBasis<'n, C> {
 /// A look that finds events that weren't shown yet allocates memory for 256 records and for a copy of the changes
 /// behind those that it keeps. If that is refused, what is shown stays as it is until the next look.
 #[derive(Drop)]
-pub struct NodeSite<'p, 'n, A: AgentName, C>
+pub struct NodeSite<'p, 'n, A: AgentName, C, R>
 where
     Published<A>: Absorb<Update<A>, State = [Event; 0]>,
 {
     pass: Pass<'p, A>,
-    basis: SiteBasis<'n, C>,
+    basis: SiteBasis<'n, C, R>,
     snapshot: Snapshot,
     changes: Changes,
     /// The version of the newest change.
@@ -69,10 +76,11 @@ where
     looked: Looked,
 }
 
-impl<'p, 'n, A: AgentName, C> Model for NodeSite<'p, 'n, A, C>
+impl<'p, 'n, A: AgentName, C, R> Model for NodeSite<'p, 'n, A, C, R>
 where
     Published<A>: Absorb<Update<A>, State = [Event; 0]>,
 {
+    ghost use Rattle.std.specs.Option.{option_map};
     ghost use Rattle.lg_status_server.specs.Meaning.Shown.{SiteValue};
     ghost use Rattle.lg_status_server.specs.Support.Showing.{IsSite};
 
@@ -85,6 +93,7 @@ where
       changes = s.changes;
       config = s.basis.config;
       leave = s.basis.leave;
+      folder = option_map (λ f. f.now) s.basis.folder;
       changed = s.changed;
       looked = s.looked;
     } };
@@ -96,6 +105,7 @@ where
       changes = s.changes;
       config = s.basis.config;
       leave = s.basis.leave;
+      folder = option_map (λ f. f.now) s.basis.folder;
       changed = s.changed;
       looked = s.looked;
     } };
@@ -103,8 +113,8 @@ where
 
 /// What a site shows after its first look, which was asked for all changes: it keeps the newest of them.
 #[tactic(auto, using(crate::proofs::ShownLaws::shown_first))]
-fn first_shown<C: Clock>(
-    basis: &SiteBasis<'_, C>,
+fn first_shown<C: Clock, R>(
+    basis: &SiteBasis<'_, C, R>,
     found: Overview,
 ) -> Result<(Snapshot, Changes), AllocError>
     ensures shown { IfOk result (λ made. (events : List Happened) → IsOverview found 0 events
@@ -141,19 +151,19 @@ fn blank(alloc: Global, counters: &Counters, reading: &Reading) -> Result<Snapsh
     })
 }
 
-impl<'p, 'n, A: AgentName, C: Clock> NodeSite<'p, 'n, A, C> {
+impl<'p, 'n, A: AgentName, C: Clock, R> NodeSite<'p, 'n, A, C, R> {
     /// A site over a pass, after its first look. Allocates memory for 256 records, for 1,024 changes and a copy of
     /// those that the agent keeps, and for a row for each fault. Refused as [`Pass::overview`] is, and then gives the
     /// pass back.
     pub fn new(
         pass: Pass<'p, A>,
-        basis: SiteBasis<'n, C>,
-    ) -> Result<NodeSite<'p, 'n, A, C>, (Refusal, Pass<'p, A>)>
+        basis: SiteBasis<'n, C, R>,
+    ) -> Result<NodeSite<'p, 'n, A, C, R>, (Refusal, Pass<'p, A>)>
         ensures looked { MatchResult result (λ site. OnlyLooked pass.entry site.pass)
             (λ refused. OnlyLooked pass.entry refused.1) }
         ensures refusal { IfErr result (λ refused. (refused.0 ≡ NoMemory) ⊎ (refused.0 ≡ NoView)) }
         ensures first { IfOk result (λ site. IsFirst site basis.entry.counters.now.name basis.entry.config
-            basis.entry.leave) }
+            basis.entry.leave (option_map (λ f. f.now) basis.entry.folder)) }
     {
         let mut pass = pass;
         let found = match pass.overview(basis.alloc, 0) {
@@ -200,7 +210,12 @@ impl<'p, 'n, A: AgentName, C: Clock> NodeSite<'p, 'n, A, C> {
     }
 }
 
-impl<'p, 'n, A: AgentName, C: Clock> Site for NodeSite<'p, 'n, A, C> {
+impl<'p, 'n, A, C, R> Site for NodeSite<'p, 'n, A, C, R>
+where
+    A: AgentName,
+    C: Clock,
+    R: Files + AllocGlobal + Clone + Drop,
+{
     ghost use Rattle.lg_status_server.specs.Meaning.Shown.{IsActOf, IsAnswerOf, IsLater};
     ghost use Rattle.lg_answers.specs.Meaning.Routes.{wait_of};
     ghost use Rattle.lg_status_server.specs.Support.Later.{later_itself, later_on};
@@ -232,6 +247,10 @@ impl<'p, 'n, A: AgentName, C: Clock> Site for NodeSite<'p, 'n, A, C> {
         path: &[u8],
         query: Option<&[u8]>,
     ) -> Result<HttpAnswer, AllocError> {
+        let explained = explain(self.basis.rt, alloc, self.basis.folder, path, query)?;
+        if let Some(answer) = explained {
+            return Ok(answer);
+        }
         answer_to(
             alloc,
             &self.snapshot,

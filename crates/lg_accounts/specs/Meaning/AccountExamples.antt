@@ -5,7 +5,7 @@ use Rattle.std.specs.List.{flat_map}
 use Rattle.lg_rules.specs.declared.claim.Status.TheVariants.{Alive, Suspect, Failed, Left}
 use Rattle.lg_accounts.specs.declared.step.NoteStep.{NoteStep}
 use Rattle.lg_accounts.specs.declared.step.NoteStep.TheVariants.{Pinged, Nacked, RoundEnded, Scored}
-use Rattle.lg_accounts.specs.declared.step.NoteStep.TheVariants.{Told, TimeOver, Changed, Suspected, Rounds}
+use Rattle.lg_accounts.specs.declared.step.NoteStep.TheVariants.{Told, TimeOver, Changed, Suspected, Minute}
 use Rattle.lg_accounts.specs.Meaning.Accounts.{account_text, fate_front, note_line, text_of_accounts, verdict_heading}
 use Rattle.lg_accounts.specs.Meaning.DateExamples.{by_dating}
 use Rattle.lg_accounts.specs.Meaning.SentenceExamples.{at, by_telling, c_is, named, unanswered}
@@ -33,7 +33,7 @@ how_c_failed =
     ∷ noted 58 1520 1795749158500 None (unanswered (named (codes "a") 7101 ∷ named (codes "d") 7104 ∷ []) ∷ [])
     ∷ noted 60 1905 1795749158885 (Some (codes "a")) (Nacked (codes "a") ∷ [])
     ∷ noted 61 2020 1795749159000 None
-    (RoundEnded true ∷ Scored 0 2 ∷ Changed (c_is (Suspect (codes "b")) 0) ∷ Suspected 5 0 3 20904 ∷ Rounds 0 0
+    (RoundEnded true ∷ Scored 0 2 ∷ Changed (c_is (Suspect (codes "b")) 0) ∷ Suspected 5 0 3 20904 ∷ Minute 0 0 0
     ∷ [])
     ∷ noted 66 2940 1795749159920 (Some (codes "d"))
     (Told (c_is (Suspect (codes "d")) 0) ∷ Suspected 5 1 3 12194 ∷ [])
@@ -48,7 +48,8 @@ failed : text_of_accounts (codes "c") false (record { notes = how_c_failed; is_k
     ∷ (codes "  2020  The round ended without an Ack. Our health score rose from 0 to 2. "
     ++ codes "We suspected it at incarnation 0. We knew 5 live members. "
     ++ codes "After 0 of 3 confirmations the timeout was 20904 ms. "
-    ++ codes "In the minute before, 0 of our rounds ended, 0 of them with a suspicion.")
+    ++ codes "In the minute before, 0 of our rounds ended, 0 of them with a suspicion, "
+    ++ codes "and our clock stood still for 0 ms.")
     ∷ (codes "  2940  d told us that d suspects it at incarnation 0. We knew 5 live members. "
     ++ codes "After 1 of 3 confirmations the timeout was 12194 ms.")
     ∷ codes "  7020  The time was over, and no refutation had come. We took it as failed."

@@ -11,7 +11,7 @@ use Rattle.lg_accounts.specs.declared.account.Account.{Account}
 use Rattle.lg_accounts.specs.declared.step.Helper.{Helper}
 use Rattle.lg_accounts.specs.declared.step.NoteStep.{NoteStep}
 use Rattle.lg_accounts.specs.declared.step.NoteStep.TheVariants.{Pinged, Unanswered, Nacked, Acked, RoundEnded, Scored}
-use Rattle.lg_accounts.specs.declared.step.NoteStep.TheVariants.{Told, TimeOver, Changed, Suspected, Rounds}
+use Rattle.lg_accounts.specs.declared.step.NoteStep.TheVariants.{Told, TimeOver, Changed, Suspected, Minute}
 use Rattle.lg_accounts.specs.declared.verdict.MemberVerdict.{MemberVerdict}
 use Rattle.lg_accounts.specs.Meaning.Values.{AccountValue, NoteValue, account_value}
 use Rattle.lg_accounts.specs.Meaning.Verdicts.{verdict_of}
@@ -83,11 +83,11 @@ timeout_json live confirmations most timeout =
     codes "{\"step\":\"timeout\",\"live\":" ++ (decimal live ++ (codes ",\"confirmations\":" ++ decimal confirmations))
     ++ (codes ",\"most\":" ++ (decimal most ++ (codes ",\"timeout\":" ++ (decimal timeout ++ codes "}"))))
 
--- {"step":"rounds","ended":E,"suspected":F}
-unfoldable pub rounds_json : ℕ → ℕ → List ℕ
-rounds_json ended suspected =
-    codes "{\"step\":\"rounds\",\"ended\":" ++ (decimal ended
-    ++ (codes ",\"suspected\":" ++ (decimal suspected ++ codes "}")))
+-- {"step":"minute","ended":E,"suspected":F,"stood_still":D}
+unfoldable pub minute_json : ℕ → ℕ → ℕ → List ℕ
+minute_json ended suspected stood =
+    codes "{\"step\":\"minute\",\"ended\":" ++ (decimal ended ++ (codes ",\"suspected\":" ++ (decimal suspected
+    ++ (codes ",\"stood_still\":" ++ (decimal stood ++ codes "}")))))
 
 -- A step of an entry: one object, or two with a comma between them where helpers were asked, or there was nobody to
 -- ask.
@@ -102,7 +102,7 @@ step_json (Told c) = record_json (codes "told") c
 step_json TimeOver = codes "{\"step\":\"time_over\"}"
 step_json (Changed c) = record_json (codes "changed") c
 step_json (Suspected live confirmations most timeout) = timeout_json live confirmations most timeout
-step_json (Rounds ended suspected) = rounds_json ended suspected
+step_json (Minute ended suspected stood) = minute_json ended suspected stood
 
 -- "moment":M,"wall":W,"told_by":NAME
 unfoldable pub times_json : ℕ → ℕ → List ℕ

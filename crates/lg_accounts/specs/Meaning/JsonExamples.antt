@@ -4,11 +4,11 @@ use Rattle.std.specs.Fmt.{digits}
 use Rattle.lg_rules.specs.declared.claim.Status.TheVariants.{Alive, Suspect, Failed}
 use Rattle.lg_accounts.specs.declared.step.NoteStep.{NoteStep}
 use Rattle.lg_accounts.specs.declared.step.NoteStep.TheVariants.{Pinged, Nacked, Acked, RoundEnded, Scored}
-use Rattle.lg_accounts.specs.declared.step.NoteStep.TheVariants.{Told, TimeOver, Changed, Suspected, Rounds}
+use Rattle.lg_accounts.specs.declared.step.NoteStep.TheVariants.{Told, TimeOver, Changed, Suspected, Minute}
 use Rattle.lg_accounts.specs.Meaning.AccountExamples.{by_accounting, noted}
 use Rattle.lg_accounts.specs.Meaning.Json.{account_json, by_json, ended_json, entry_json, helper_json, known_json}
 use Rattle.lg_accounts.specs.Meaning.Json.{member_front, note_json, pinged_front, pinged_json, record_json}
-use Rattle.lg_accounts.specs.Meaning.Json.{rounds_json, scored_json, status_json, step_json, timeout_json, times_json}
+use Rattle.lg_accounts.specs.Meaning.Json.{minute_json, scored_json, status_json, step_json, timeout_json, times_json}
 use Rattle.lg_accounts.specs.Meaning.Json.{json_of_accounts, truth_json, unanswered_front, unanswered_json}
 use Rattle.lg_accounts.specs.Meaning.Json.{verdict_json, verdict_status}
 use Rattle.lg_accounts.specs.Meaning.SentenceExamples.{at, c_is, named, nameless, unanswered}
@@ -16,7 +16,7 @@ use Rattle.lg_accounts.specs.Meaning.SentenceExamples.{at, c_is, named, nameless
 -- what the rows have to unfold
 unfoldable by_listing : ⊤
 unfolding digits account_json by_json ended_json entry_json helper_json known_json member_front note_json pinged_front
-    pinged_json record_json rounds_json scored_json status_json timeout_json times_json truth_json unanswered_front
+    pinged_json record_json minute_json scored_json status_json timeout_json times_json truth_json unanswered_front
     unanswered_json verdict_json verdict_status
 by_listing = tt
 
@@ -74,9 +74,10 @@ timeout : is_step (Suspected 5 0 3 20904)
 unfolding by_listing
 timeout = refl
 
-rounds : is_step (Rounds 54 3) (codes "{\"step\":\"rounds\",\"ended\":54,\"suspected\":3}")
+minute : is_step (Minute 54 3 2000)
+    (codes "{\"step\":\"minute\",\"ended\":54,\"suspected\":3,\"stood_still\":2000}")
 unfolding by_listing
-rounds = refl
+minute = refl
 
 -- c failed, in an entry with two steps
 failed : json_of_accounts (codes "c")

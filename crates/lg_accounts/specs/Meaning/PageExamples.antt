@@ -6,7 +6,7 @@ use Rattle.lg_rules.specs.declared.claim.Status.TheVariants.{Alive, Suspect, Fai
 use Rattle.lg_accounts.specs.declared.picture.ShownTime.{ShownTime}
 use Rattle.lg_accounts.specs.declared.step.NoteStep.{NoteStep}
 use Rattle.lg_accounts.specs.declared.step.NoteStep.TheVariants.{Pinged, Nacked, Acked, RoundEnded, Scored}
-use Rattle.lg_accounts.specs.declared.step.NoteStep.TheVariants.{Told, TimeOver, Changed, Suspected, Rounds}
+use Rattle.lg_accounts.specs.declared.step.NoteStep.TheVariants.{Told, TimeOver, Changed, Suspected, Minute}
 use Rattle.lg_accounts.specs.Meaning.AccountExamples.{by_accounting, how_c_failed, how_c_left, noted}
 use Rattle.lg_accounts.specs.Meaning.DateExamples.{by_dating}
 use Rattle.lg_accounts.specs.Meaning.Pages.{account_section, item_front, lane_text, lanes, mark_front, moment_x}
@@ -106,11 +106,12 @@ fell : is_mark None (Scored 2 1)
 unfolding by_showing by_telling
 fell = refl
 
-rounds : is_mark None (Rounds 54 3)
+minute : is_mark None (Minute 54 3 2000)
     (codes "<circle cx=\"520\" cy=\"110\" r=\"5\" class=\"probe\"><title>4020 In the minute before, "
-    ++ codes "54 of our rounds ended, 3 of them with a suspicion.</title></circle>\n")
+    ++ codes "54 of our rounds ended, 3 of them with a suspicion, and our clock stood still for 2000 ms."
+    ++ codes "</title></circle>\n")
 unfolding by_showing by_telling
-rounds = refl
+minute = refl
 
 suspected : is_mark None (Changed (c_is (Suspect (codes "b")) 0))
     (codes "<circle cx=\"520\" cy=\"140\" r=\"5\" class=\"suspect\"><title>4020 "

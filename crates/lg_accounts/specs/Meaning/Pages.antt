@@ -10,7 +10,7 @@ use Rattle.lg_accounts.specs.declared.account.Account.{Account}
 use Rattle.lg_accounts.specs.declared.picture.ShownTime.{ShownTime}
 use Rattle.lg_accounts.specs.declared.step.NoteStep.{NoteStep}
 use Rattle.lg_accounts.specs.declared.step.NoteStep.TheVariants.{Pinged, Unanswered, Nacked, Acked, RoundEnded, Scored}
-use Rattle.lg_accounts.specs.declared.step.NoteStep.TheVariants.{Told, TimeOver, Changed, Suspected, Rounds}
+use Rattle.lg_accounts.specs.declared.step.NoteStep.TheVariants.{Told, TimeOver, Changed, Suspected, Minute}
 use Rattle.lg_accounts.specs.Meaning.Accounts.{heading_by}
 use Rattle.lg_accounts.specs.Meaning.Sentences.{sentence_text, sentences_text}
 use Rattle.lg_accounts.specs.Meaning.Values.{AccountValue, NoteValue, account_value}
@@ -47,7 +47,7 @@ step_y (Acked by) = 50
 step_y (Nacked by) = 50
 step_y (Told c) = 80
 step_y (Scored before after) = 110
-step_y (Rounds ended suspected) = 110
+step_y (Minute ended suspected stood) = 110
 step_y (Changed c) = 140
 step_y TimeOver = 140
 step_y (Suspected live confirmations most timeout) = 140
@@ -74,7 +74,7 @@ step_class (Acked by) = codes "ack"
 step_class (Nacked by) = codes "late"
 step_class (Told c) = status_class c.status
 step_class (Scored before after) = scored_class before after
-step_class (Rounds ended suspected) = codes "probe"
+step_class (Minute ended suspected stood) = codes "probe"
 step_class (Changed c) = status_class c.status
 step_class TimeOver = codes "gone"
 step_class (Suspected live confirmations most timeout) = codes "suspect"

@@ -12,12 +12,13 @@ use Rattle.lg_accounts.specs.declared.step.NoteStep.TheVariants.{Pinged, Unanswe
 use Rattle.lg_accounts.specs.declared.step.NoteStep.TheVariants.{Told, Changed}
 use Rattle.lg_accounts.specs.Meaning.Sentences.{acked_text, asked_text, at_incarnation, live_text, nacked_text}
 use Rattle.lg_accounts.specs.Meaning.Sentences.{pinged_text, rounds_text, scored_text, sentence_text, sentences_text}
-use Rattle.lg_accounts.specs.Meaning.Sentences.{timeout_text, told_alive, told_gone, told_suspect, unanswered_text}
+use Rattle.lg_accounts.specs.Meaning.Sentences.{stood_text, timeout_text, told_alive, told_gone, told_suspect}
+use Rattle.lg_accounts.specs.Meaning.Sentences.{unanswered_text}
 
 -- what the rows have to unfold
 unfoldable pub by_telling : ⊤
 unfolding digits acked_text asked_text at_incarnation live_text nacked_text pinged_text rounds_text scored_text
-    timeout_text told_alive told_gone told_suspect unanswered_text
+    stood_text timeout_text told_alive told_gone told_suspect unanswered_text
 by_telling = tt
 
 abbrev pub at : ℕ → Addr

@@ -11,7 +11,7 @@ use Rattle.lg_lines.specs.Meaning.Records.{blank}
 use Rattle.lg_accounts.specs.declared.step.Helper.{Helper}
 use Rattle.lg_accounts.specs.declared.step.NoteStep.{NoteStep}
 use Rattle.lg_accounts.specs.declared.step.NoteStep.TheVariants.{Pinged, Unanswered, Nacked, Acked, RoundEnded, Scored}
-use Rattle.lg_accounts.specs.declared.step.NoteStep.TheVariants.{Told, TimeOver, Changed, Suspected, Rounds}
+use Rattle.lg_accounts.specs.declared.step.NoteStep.TheVariants.{Told, TimeOver, Changed, Suspected, Minute}
 
 -- We pinged it (probe K, at ADDR).
 unfoldable pub pinged_text : ℕ → Addr → List ℕ
@@ -117,11 +117,14 @@ timeout_text confirmations most timeout =
     codes "After " ++ (decimal confirmations ++ (codes " of " ++ (decimal most
     ++ (codes " confirmations the timeout was " ++ (decimal timeout ++ codes " ms.")))))
 
--- In the minute before, E of our rounds ended, F of them with a suspicion.
+-- In the minute before, E of our rounds ended, F of them with a suspicion, and our clock stood still for D ms.
 unfoldable pub rounds_text : ℕ → ℕ → List ℕ
 rounds_text ended suspected =
     codes "In the minute before, " ++ (decimal ended ++ (codes " of our rounds ended, "
-    ++ (decimal suspected ++ codes " of them with a suspicion.")))
+    ++ (decimal suspected ++ codes " of them with a suspicion, ")))
+
+unfoldable pub stood_text : ℕ → List ℕ
+stood_text stood = codes "and our clock stood still for " ++ (decimal stood ++ codes " ms.")
 
 -- The sentences of a step of an entry: one, or two with a blank between them. The first argument is the sender of the
 -- packet that was heard, if the entry is one that heard one.
@@ -137,7 +140,7 @@ sentence_text teller TimeOver = codes "The time was over, and no refutation had 
 sentence_text teller (Changed c) = changed_text c.status c.incarnation
 sentence_text teller (Suspected live confirmations most timeout) =
     live_text live ++ timeout_text confirmations most timeout
-sentence_text teller (Rounds ended suspected) = rounds_text ended suspected
+sentence_text teller (Minute ended suspected stood) = rounds_text ended suspected ++ stood_text stood
 
 -- the sentences of some steps, with a blank between them
 abbrev pub sentence_behind : Option (List ℕ) → NoteStep → List ℕ

@@ -42,7 +42,8 @@ impl<A: AgentName> Kept<A> {
     /// those that were cut off before. No entry is copied or dropped, and no memory is freed. `into` must be as
     /// [`CutOff::clear`] leaves it. Returns how many entries it has then.
     ///
-    /// The only refusal is [`Refusal::NoMemory`], if memory for the summary was refused. Then nothing has changed.
+    /// Memory is allocated for the summary, unless `into` has kept that of an earlier one. The only refusal is
+    /// [`Refusal::NoMemory`], if it was refused. Then nothing has changed.
     pub fn rotate_into(&mut self, alloc: Global, into: &mut CutOff) -> Result<u64, Refusal>
         requires { into.old ≡ nothing_cut_off }
         ensures rotated { IfOk result (λ n. (n ≡ length self.old.history) × IsRotated self.old self.new) }
@@ -51,7 +52,7 @@ impl<A: AgentName> Kept<A> {
         ensures right { IfOk result (λ _. IsCutOff A.places into.new) }
         ensures refused { IfErr result (λ e. (e ≡ NoMemory) × (self.new ≡ self.old) × (into.new ≡ into.old)) }
     {
-        let Ok(summary) = self.detector.summary(alloc) else {
+        let Ok(summary) = into.summary_of(alloc, &self.detector) else {
             return Err(Refusal::NoMemory);
         };
         let moved = self.history.len();

@@ -10,14 +10,17 @@ use Rattle.lg_http.specs.declared.site.HttpStatus.{HttpStatus}
 use Rattle.lg_http.specs.declared.site.HttpStatus.TheVariants.{Fine, NotFound, Unavailable}
 use Rattle.lg_rules.specs.declared.claim.Claim.{Claim}
 use Rattle.lg_changes.specs.declared.change.Change.{Change}
+use Rattle.lg_answers.specs.declared.explaining.Explained.{Explained}
+use Rattle.lg_answers.specs.declared.explaining.Explained.TheVariants.{Unrecorded}
 use Rattle.lg_answers.specs.declared.reason.RouteFault.{RouteFault}
 use Rattle.lg_answers.specs.declared.route.Route.{Route}
 use Rattle.lg_answers.specs.declared.route.Route.TheVariants.{Page, Members, Member, Health, Changes, Config, Metrics}
-use Rattle.lg_answers.specs.declared.route.Route.TheVariants.{Targets}
+use Rattle.lg_answers.specs.declared.route.Route.TheVariants.{Targets, Explain}
 use Rattle.lg_answers.specs.declared.snapshot.ShownConfig.{ShownConfig}
 use Rattle.lg_answers.specs.declared.snapshot.Snapshot.{Snapshot}
 use Rattle.lg_answers.specs.Meaning.Bodies.{config_body, error_body, health_body}
 use Rattle.lg_answers.specs.Meaning.Changes.{changes_body}
+use Rattle.lg_answers.specs.Meaning.Explaining.{explained_body, explained_status}
 use Rattle.lg_answers.specs.Meaning.Members.{member_body, members_body}
 use Rattle.lg_answers.specs.Meaning.Metrics.{metrics_body}
 use Rattle.lg_answers.specs.Meaning.Page.{page_body}
@@ -59,7 +62,14 @@ health_status ousted = if ousted then Unavailable else Fine
 abbrev pub health_answer : Snapshot → AnswerValue
 health_answer s = record { status = health_status s.ousted; kind = Json; body = health_body s }
 
--- the answer for a route, from one look, all changes, and the configuration
+-- what the recording tells of a member
+abbrev pub explained_answer : Explained → AnswerValue
+explained_answer explained =
+    record { status = explained_status explained; kind = Json; body = explained_body explained }
+
+-- The answer for a route, from one look, all changes, and the configuration. No recording is among these: so the answer
+-- for what one tells is that of a node that doesn't record, and whoever has a recording answers this route by
+-- `explained_answer`.
 unfoldable pub route_answer : Snapshot → List Change → ShownConfig → Route → AnswerValue
 route_answer s all setup Page = found_answer Html (page_body s)
 route_answer s all setup (Members kind) = found_answer Json (members_body s kind)
@@ -69,6 +79,7 @@ route_answer s all setup (Changes wait) = found_answer Json (changes_body s wait
 route_answer s all setup Config = found_answer Json (config_body setup)
 route_answer s all setup Metrics = found_answer kind.Metrics (metrics_body s)
 route_answer s all setup (Targets port) = found_answer Json (targets_body s setup.status port)
+route_answer s all setup (Explain name) = explained_answer Unrecorded
 
 -- the answer to a request for a path and a query
 abbrev pub routed_answer : Snapshot → List Change → ShownConfig → Result Route RouteFault → AnswerValue

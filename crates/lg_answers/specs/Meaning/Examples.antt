@@ -7,7 +7,7 @@ use Rattle.lg_answers.specs.declared.reason.RouteFault.TheVariants.{UnknownPath,
 use Rattle.lg_answers.specs.declared.reason.RouteFault.TheVariants.{BadPort, PostOnly}
 use Rattle.lg_answers.specs.declared.route.Route.{Route}
 use Rattle.lg_answers.specs.declared.route.Route.TheVariants.{Page, Members, Member, Health, Changes, Config, Metrics}
-use Rattle.lg_answers.specs.declared.route.Route.TheVariants.{Targets}
+use Rattle.lg_answers.specs.declared.route.Route.TheVariants.{Targets, Explain}
 use Rattle.lg_answers.specs.declared.route.StatusKind.TheVariants.{Suspect}
 use Rattle.lg_answers.specs.Meaning.Queries.{changes_asked, pair_said, port_asked, two_pairs_said}
 use Rattle.lg_answers.specs.Meaning.Queries.{value_said}
@@ -49,6 +49,10 @@ one_member : is_route (codes "/v1/members/b-2.example") None (Member (codes "b-2
 unfolding by_routing
 one_member = refl
 
+one_explained : is_route (codes "/v1/explain/b-2.example") None (Explain (codes "b-2.example"))
+unfolding by_routing
+one_explained = refl
+
 the_health : is_route (codes "/v1/health") (Some []) Health
 unfolding by_routing
 the_health = refl
@@ -83,8 +87,9 @@ changes_waited_for = refl
 unknown_paths :
     is_no_route (codes "/v1/member") None UnknownPath × is_no_route (codes "/v1/health/") None UnknownPath
     × is_no_route (codes "/V1/health") None UnknownPath × is_no_route [] None UnknownPath
+    × is_no_route (codes "/v1/explain") None UnknownPath
 unfolding by_routing
-unknown_paths = (refl, refl, refl, refl)
+unknown_paths = (refl, refl, refl, refl, refl)
 
 -- GET and HEAD have no route to a path that takes POST alone
 post_only :
@@ -96,14 +101,16 @@ no_names :
     is_no_route (codes "/v1/members/") None NoName × is_no_route (codes "/v1/members/b%2D2") None NoName
     × is_no_route (codes "/v1/members/a/b") None NoName
     × is_no_route (codes "/v1/members/123456789012345678901234567890123") None NoName
+    × is_no_route (codes "/v1/explain/") None NoName × is_no_route (codes "/v1/explain/a/b") None NoName
 unfolding by_routing
-no_names = (refl, refl, refl, refl)
+no_names = (refl, refl, refl, refl, refl, refl)
 
 no_queries :
     is_no_route (codes "/metrics") (Some (codes "a=1")) NoQuery
     × is_no_route (codes "/v1/members/b") (Some (codes "status=alive")) NoQuery
+    × is_no_route (codes "/v1/explain/b") (Some (codes "all")) NoQuery
 unfolding by_routing
-no_queries = (refl, refl)
+no_queries = (refl, refl, refl)
 
 bad_statuses :
     is_no_route (codes "/v1/members") (Some (codes "status=dead")) BadStatus
@@ -137,5 +144,6 @@ waits :
     waits_for (codes "/v1/changes") (Some (codes "after=41&wait_ms=30000")) (Some (waiting 41 30000))
     × waits_for (codes "/v1/changes") None (Some (waiting 0 0)) × waits_for (codes "/v1/members") None None
     × waits_for (codes "/v1/changes") (Some (codes "wait_ms=30001")) None
+    × waits_for (codes "/v1/explain/b") None None
 unfolding by_routing
-waits = (refl, refl, refl, refl)
+waits = (refl, refl, refl, refl, refl)

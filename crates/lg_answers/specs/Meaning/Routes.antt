@@ -14,10 +14,10 @@ use Rattle.lg_answers.specs.declared.reason.RouteFault.TheVariants.{UnknownPath,
 use Rattle.lg_answers.specs.declared.reason.RouteFault.TheVariants.{BadPort, PostOnly}
 use Rattle.lg_answers.specs.declared.route.Route.{Route}
 use Rattle.lg_answers.specs.declared.route.Route.TheVariants.{Page, Members, Member, Health, Changes, Config, Metrics}
-use Rattle.lg_answers.specs.declared.route.Route.TheVariants.{Targets}
+use Rattle.lg_answers.specs.declared.route.Route.TheVariants.{Targets, Explain}
 use Rattle.lg_answers.specs.declared.route.StatusKind.{StatusKind}
 use Rattle.lg_answers.specs.declared.route.StatusKind.TheVariants.{Alive, Suspect, Failed, Left}
-use Rattle.lg_answers.specs.Meaning.Places.{member_name, place_at}
+use Rattle.lg_answers.specs.Meaning.Places.{explained_name, member_name, place_at}
 use Rattle.lg_answers.specs.Meaning.Queries.{changes_asked, port_asked}
 
 -- the statuses without their accusers, and the queries that ask for members of one
@@ -73,6 +73,14 @@ named_route (Err fault) query = Err NoName
 abbrev pub member_route : List ℕ → List ℕ → Result Route RouteFault
 member_route name query = named_route (name_of_text name) query
 
+-- the route of what the recording tells of a member, whose name stands in the path
+abbrev pub told_route : Result (List ℕ) NameFault → List ℕ → Result Route RouteFault
+told_route (Ok name) query = plain_route (Explain name) query
+told_route (Err fault) query = Err NoName
+
+abbrev pub explain_route : List ℕ → List ℕ → Result Route RouteFault
+explain_route name query = told_route (name_of_text name) query
+
 -- the route of the changes
 abbrev pub asked_route : Option Wait → Result Route RouteFault
 asked_route None = Err BadChanges
@@ -105,8 +113,12 @@ abbrev pub found_route : Option Place → List ℕ → Result Route RouteFault
 found_route None query = Err UnknownPath
 found_route (Some place) query = place_route place query
 
+abbrev pub route_unless_explained : Option (List ℕ) → List ℕ → List ℕ → Result Route RouteFault
+route_unless_explained None path query = found_route (place_at path) query
+route_unless_explained (Some name) path query = explain_route name query
+
 abbrev pub route_unless_member : Option (List ℕ) → List ℕ → List ℕ → Result Route RouteFault
-route_unless_member None path query = found_route (place_at path) query
+route_unless_member None path query = route_unless_explained (explained_name path) path query
 route_unless_member (Some name) path query = member_route name query
 
 abbrev pub path_route : List ℕ → List ℕ → Result Route RouteFault

@@ -1,5 +1,6 @@
 -- How a command line is run, and what becomes of one that isn't.
-use Rattle.std.specs.Prelude.{◌≡◌, ◌≢◌, ◌⊎◌, Bool, IfOk, ℕ, true, List, [], Option, Result, Ok, Err, if◌then◌else◌}
+use Rattle.std.specs.Prelude.{◌≡◌, ◌≢◌, ◌⊎◌, Bool, IfOk, ℕ, true, false, List, [], Option, None, Some, Result, Ok, Err}
+use Rattle.std.specs.Prelude.{if◌then◌else◌}
 use Rattle.std.specs.Result.{is_err}
 use Rattle.lg_rules.specs.Meaning.Name.{name_of_text}
 use Rattle.lg_text.specs.Meaning.Reporting.{Reported}
@@ -16,7 +17,8 @@ use Rattle.lg_commands.specs.declared.timeouts.Numbers.{Numbers}
 use Rattle.lg_config.specs.Meaning.Options.{SourceValue}
 use Rattle.lg_explain.specs.declared.question.MemberQuestion.{MemberQuestion}
 use Rattle.lg_explain_run.specs.declared.form.AccountForm.{AccountForm}
-use Rattle.lg_explain_run.specs.declared.form.AccountForm.TheVariants.{Json, Lines, NumberedLines, Page}
+use Rattle.lg_explain_run.specs.declared.form.AccountForm.TheVariants.{Json, Lines, NumberedLines}
+use Rattle.lg_explain_run.specs.Meaning.Paging.{ExplainsPage}
 use Rattle.lg_explain_run.specs.Meaning.Running.{ExplainsFolder}
 use Rattle.lg_replay.specs.declared.window.Window.{Window}
 use Rattle.lg_replay_run.specs.Meaning.Running.{ReplaysFolder}
@@ -159,25 +161,34 @@ pub record RunsReplay
 abbrev pub question_of : ExplainPart → MemberQuestion
 question_of part = record { name = part.name; at = part.at; all = part.all }
 
--- how the accounts are written, by whether the numbers of the entries are told too, and whether they are JSON
-abbrev pub form_of : (entries json html : Bool) → AccountForm
-form_of entries json html =
-    if json then Json else if html then Page else if entries then NumberedLines else Lines
+-- how the accounts are written as lines, by whether the numbers of the entries are told too, and whether they are JSON
+abbrev pub form_of : (entries json : Bool) → AccountForm
+form_of entries json = if json then Json else if entries then NumberedLines else Lines
 
--- What `explain` does by what its texts mean: it tells about the member from the recording in the folder. If a text is
--- bad, that is told, and nothing is written.
+-- What is told about the member from the recording in the folder: lines in a form on the writer, or a page in a file,
+-- if one is named. Then nothing is written on the writer. No contract sees what a file of the machine has.
+abbrev pub ExplainsMember :
+    {W : Type 0} → (before after : W) (held holds : Option (List ℕ)) (reported reports : Reported)
+    → ExplainPart → (page : Option (List ℕ)) → AccountForm → (status : ℕ) → Type 0
+ExplainsMember before after held holds reported reports part None form status =
+    ExplainsFolder held holds reported reports part.folder (question_of part) form status
+ExplainsMember before after held holds reported reports part (Some path) form status =
+    (after ≡ before) × ExplainsPage false [] [] reported reports part.folder (question_of part) path status
+
+-- What `explain` does by what its texts mean: it tells about the member. If a text is bad, that is told, and nothing is
+-- written.
 abbrev pub ExplainsPart :
     {W : Type 0} → (before after : W) (held holds : Option (List ℕ)) (reported reports : Reported)
-    → Result ExplainPart BadPart → AccountForm → (status : ℕ) → Type 0
-ExplainsPart before after held holds reported reports (Ok part) form status =
-    ExplainsFolder held holds reported reports part.folder (question_of part) form status
-ExplainsPart before after held holds reported reports (Err bad) form status =
+    → Result ExplainPart BadPart → (page : Option (List ℕ)) → AccountForm → (status : ℕ) → Type 0
+ExplainsPart before after held holds reported reports (Ok part) page form status =
+    ExplainsMember before after held holds reported reports part page form status
+ExplainsPart before after held holds reported reports (Err bad) page form status =
     (after ≡ before) × TellsBadPart {Part = ExplainPart} reported reports (Err bad) status
 
 -- `explain` is run. Nothing is read from the reader.
 pub record RunsExplain {R W : Type 0} (before after : Streams R W) (value : ExplainValue) (status : ℕ) : Type 0 where
   pub explained : ExplainsPart before.writer after.writer before.held after.held before.reported after.reported
-      (explained_of value.folder value.name value.at value.all) (form_of value.entries value.json value.html) status
+      (explained_of value.folder value.name value.at value.all) value.html (form_of value.entries value.json) status
   pub unread : after.reader ≡ before.reader
 
 -- What `version` writes, by the end of the program's own file. What a file holds no contract can say.

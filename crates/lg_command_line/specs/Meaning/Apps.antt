@@ -139,7 +139,7 @@ explain_app =
     let folder = with_rule name (text_rule (codes "record")) in
     let at = with_rule folder (number_rule (codes "at") 0 MAX_MOMENT) in
     let parts = with_rule (with_rule at (flag_rule (codes "all"))) (flag_rule (codes "entries")) in
-    with_rule (with_rule parts (flag_rule (codes "json"))) (flag_rule (codes "html"))
+    with_rule (with_rule parts (flag_rule (codes "json"))) (optional_text_rule (codes "html"))
 
 -- The program has the commands `answer`, `order`, `timeouts`, `sim`, `node`, `check` and `init`, and `members`,
 -- `status`, `watch` and `leave`, which ask a running node, and `replay`, `explain` and `version`. One of them has to be

@@ -63,7 +63,7 @@ numbers_in rows = record {
 
 -- The options of `explain`: the text of the member's name, that of the folder, the latest moment at which the first
 -- verdict of an account may have come, whether each account is told, whether the numbers of the entries are told too,
--- and whether the accounts are written as JSON, and as a page of HTML.
+-- whether the accounts are written as JSON, and into which file they are written as a page of HTML, if one was given.
 pub record ExplainValue : Type 0 where
   pub name : Text
   pub folder : Text
@@ -71,7 +71,7 @@ pub record ExplainValue : Type 0 where
   pub all : Bool
   pub entries : Bool
   pub json : Bool
-  pub html : Bool
+  pub html : Option Text
 
 -- What a command line asks for: a command with its options. For `node` these are where its configuration comes from,
 -- for how many milliseconds it runs if it was said, whether it follows what changes, and whether it ends with its
@@ -125,7 +125,7 @@ explain_of_rows rows = explain record {
   all = flag_in rows (codes "all");
   entries = flag_in rows (codes "entries");
   json = flag_in rows (codes "json");
-  html = flag_in rows (codes "html");
+  html = first_of (codes "html") rows;
 }
 
 -- the command that was met, with its options

@@ -8,7 +8,7 @@ use Rattle.lg_timing.specs.Meaning.Keys.{row_of}
 use Rattle.clap.specs.Walk.{Text}
 use Rattle.lg_config.specs.Meaning.Options.{SourceValue}
 use Rattle.lg_command_line.specs.Meaning.Commands.{answer, ask, check, init, leave, node, order, timeouts}
-use Rattle.lg_command_line.specs.Meaning.Commands.{explain, replay, version}
+use Rattle.lg_command_line.specs.Meaning.Commands.{replay, version}
 use Rattle.lg_command_line.specs.Meaning.Commands.{asked, line_faults}
 use Rattle.lg_command_line.specs.declared.asked.Question.TheVariants.{Members, Status, Watch}
 
@@ -320,85 +320,6 @@ told-twice : line_faults (codes "lg" ∷ codes "replay" ∷ codes "a" ∷ codes 
     ≡ kind.ArgumentConflict ∷ []
 unfolding line_faults asked clap_on_literals
 told-twice = refl
-
--- without options the latest account is told, in lines
-latest-account :
-    asked (codes "lg" ∷ codes "explain" ∷ codes "c" ∷ codes "--record" ∷ codes "/var/lib/lg" ∷ [])
-    ≡ explain record {
-      name = codes "c";
-      folder = codes "/var/lib/lg";
-      at = 1000000000000000;
-      all = false;
-      entries = false;
-      json = false;
-      html = false;
-    }
-unfolding asked clap_on_literals
-latest-account = refl
-
-latest-account-taken :
-    line_faults (codes "lg" ∷ codes "explain" ∷ codes "c" ∷ codes "--record" ∷ codes "/var/lib/lg" ∷ []) ≡ []
-unfolding line_faults asked clap_on_literals
-latest-account-taken = refl
-
-all-accounts :
-    asked (codes "lg" ∷ codes "explain" ∷ codes "--record=a" ∷ codes "--all" ∷ codes "--at=70" ∷ codes "c"
-    ∷ codes "--entries" ∷ codes "--json" ∷ [])
-    ≡ explain record {
-      name = codes "c";
-      folder = codes "a";
-      at = 70;
-      all = true;
-      entries = true;
-      json = true;
-      html = false;
-    }
-unfolding asked clap_on_literals
-all-accounts = refl
-
-as-a-page :
-    asked (codes "lg" ∷ codes "explain" ∷ codes "c" ∷ codes "--record=a" ∷ codes "--html" ∷ [])
-    ≡ explain record {
-      name = codes "c";
-      folder = codes "a";
-      at = 1000000000000000;
-      all = false;
-      entries = false;
-      json = false;
-      html = true;
-    }
-unfolding asked clap_on_literals
-as-a-page = refl
-
-at-no-moment :
-    line_faults (codes "lg" ∷ codes "explain" ∷ codes "c" ∷ codes "--record=a" ∷ codes "--at=1000000000000001" ∷ [])
-    ≡ kind.ValueValidation ∷ []
-unfolding line_faults asked clap_on_literals
-at-no-moment = refl
-
-no-recording : line_faults (codes "lg" ∷ codes "explain" ∷ codes "c" ∷ []) ≡ kind.MissingRequiredArgument ∷ []
-unfolding line_faults asked clap_on_literals
-no-recording = refl
-
-no-member : line_faults (codes "lg" ∷ codes "explain" ∷ codes "--record=a" ∷ []) ≡ kind.MissingRequiredArgument ∷ []
-unfolding line_faults asked clap_on_literals
-no-member = refl
-
-two-members : line_faults (codes "lg" ∷ codes "explain" ∷ codes "b" ∷ codes "c" ∷ codes "--record=a" ∷ [])
-    ≡ kind.UnknownArgument ∷ []
-unfolding line_faults asked clap_on_literals
-two-members = refl
-
--- the member and the folder are judged after the command line is taken
-any-member : line_faults (codes "lg" ∷ codes "explain" ∷ codes "a/b" ∷ codes "--record=" ∷ []) ≡ []
-unfolding line_faults asked clap_on_literals
-any-member = refl
-
-all-twice :
-    line_faults (codes "lg" ∷ codes "explain" ∷ codes "c" ∷ codes "--record=a" ∷ codes "--all" ∷ codes "--all" ∷ [])
-    ≡ kind.ArgumentConflict ∷ []
-unfolding line_faults asked clap_on_literals
-all-twice = refl
 
 the-version : asked (codes "lg" ∷ codes "version" ∷ []) ≡ version
 unfolding asked clap_on_literals

@@ -25,7 +25,7 @@ explain_value words = record {
   all = words.all;
   entries = words.entries;
   json = words.json;
-  html = words.html;
+  html = option_map (λ text. text.now) words.html;
 }
 
 abbrev pub request_of : Asked → Request

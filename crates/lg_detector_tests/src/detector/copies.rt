@@ -1,10 +1,12 @@
-//! Copies, and events that are absorbed.
+//! Copies, events that are absorbed, and summaries that are overwritten.
 use crate::playing::blank;
-use lg_detector::Reply;
+use lg_detector::{Detector, Reply};
 use lg_detector_testing::Happens::{self, Ask, From, Health, Opens, Ping, Pull, Tick};
 use lg_detector_testing::{event_of, is_same_reply, is_same_state, takes};
 use lg_testing::bodies::Says::{Ack, PullFirst};
 use lg_testing::says::Said::{Alive, Suspect};
+use std::alloc::Global;
+use std::process::Abort;
 
 /// An opening, claims, Acks, Pulls and questions. The ticks fire the start of a round, the asking of helpers, and the
 /// end of the round.
@@ -66,4 +68,37 @@ fn absorbs_as_it_steps(rt: HostRuntime) {
         accepted && is_same_reply(&reply, &again) && wanted,
         "{reply:?}"
     );
+}
+
+/// A detector after so many of the events.
+fn after(rt: &impl Abort, alloc: Global, count: usize) -> Detector {
+    let mut detector = blank(rt, alloc);
+    for happens in HAPPENED.iter().take(count) {
+        detector.absorb(&event_of(happens));
+    }
+    detector
+}
+
+/// A summary of all events is overwritten by that of the first ones, of one event more each time. What is resumed from
+/// it takes the other events as the detector does to which the first ones happened.
+#[test]
+fn overwrites_a_summary(rt: HostRuntime) {
+    let whole = after(&rt, rt.alloc(), HAPPENED.len());
+    let mut summary = whole.summary(rt.alloc()).expect(&rt, "there is memory");
+    for count in 0..=HAPPENED.len() {
+        let mut detector = after(&rt, rt.alloc(), count);
+        detector.summary_into(&mut summary);
+        let mut resumed = Detector::resume(rt.alloc(), &summary).expect(&rt, "there is memory");
+        let (mut reply, mut again) = (Reply::default(), Reply::default());
+        let mut same = is_same_state(&resumed, &detector);
+        for happens in HAPPENED.iter().skip(count) {
+            let event = event_of(happens);
+            let accepted = takes(&mut detector, &event, &mut reply);
+            same = takes(&mut resumed, &event, &mut again) == accepted
+                && is_same_reply(&reply, &again)
+                && is_same_state(&resumed, &detector)
+                && same;
+        }
+        assert!(rt; same, "{count}");
+    }
 }

@@ -7,6 +7,7 @@ use Rattle.lg_detector.specs.declared.event.Event.{Event}
 use Rattle.lg_history.specs.Meaning.History.{Entry}
 use Rattle.lg_fields.specs.declared.fault.FieldFault.{FieldFault}
 use Rattle.lg_heads.specs.Meaning.Heads.{BeforeValue, HeadValue}
+use Rattle.lg_recording.specs.Meaning.Values.{RecordedEntry}
 use Rattle.lg_notes.specs.Meaning.About.{is_about, is_suspect_record}
 use Rattle.lg_notes.specs.declared.subject.NoteSubject.{NoteSubject}
 use Rattle.lg_notes.specs.declared.watch.Watch.{Watch}
@@ -16,9 +17,9 @@ use Rattle.lg_replay.specs.Meaning.Lives.{past_to, past_with}
 use Rattle.lg_replay.specs.Meaning.Words.{moment_of_event}
 
 -- An entry in its place: its number in its life, the wall time of its moment, the member that is asked for with the
--- node, and the events before it since the opening, if all of them are known. If it doesn't go on with the entry before
--- it, since its life begins with it or some entries before it are missing, it has the watch of the member that begins
--- there.
+-- node, and the events before it since the opening, if all of them are known; and for how many milliseconds the clock
+-- stood still, as the entry says. If it doesn't go on with the entry before it, since its life begins with it or some
+-- entries before it are missing, it has the watch of the member that begins there.
 pub record PlacedEntry : Type 0 where
   pub number : ℕ
   pub wall_ms : ℕ
@@ -26,6 +27,7 @@ pub record PlacedEntry : Type 0 where
   pub past : Option (List Event)
   pub begun : Option Watch
   pub entry : Entry
+  pub stood_still_ms : ℕ
 
 -- What was read of some files: the entries, the latest first, and what one more would have of the same: its number,
 -- the events before it, and the watch that begins there, if one does.
@@ -86,26 +88,27 @@ abbrev pub note_subject : List ℕ → HeadValue → NoteSubject
 note_subject name head = record { name = name; me = head.name; group = head.config.group }
 
 -- an entry behind what was read, in its place
-abbrev pub placed : List ℕ → HeadValue → FilesRead → Entry → PlacedEntry
+abbrev pub placed : List ℕ → HeadValue → FilesRead → RecordedEntry → PlacedEntry
 placed name head r x = record {
   number = r.number;
-  wall_ms = wall_of head (moment_of_event x.event);
+  wall_ms = wall_of head (moment_of_event x.entry.event);
   subject = note_subject name head;
   past = r.past;
   begun = r.begun;
-  entry = x;
+  entry = x.entry;
+  stood_still_ms = x.stood_still_ms;
 }
 
 -- what was read, with one entry more
-abbrev pub entry_read : List ℕ → HeadValue → FilesRead → Entry → FilesRead
+abbrev pub entry_read : List ℕ → HeadValue → FilesRead → RecordedEntry → FilesRead
 entry_read name head r x = record {
   entries = placed name head r x ∷ r.entries;
   number = r.number + 1;
-  past = past_with r.past x.event;
+  past = past_with r.past x.entry.event;
   begun = None;
 }
 
-abbrev pub entries_read : List ℕ → HeadValue → FilesRead → List Entry → FilesRead
+abbrev pub entries_read : List ℕ → HeadValue → FilesRead → List RecordedEntry → FilesRead
 entries_read name head r [] = r
 entries_read name head r (x ∷ xs) = entries_read name head (entry_read name head r x) xs
 

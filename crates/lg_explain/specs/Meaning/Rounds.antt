@@ -3,7 +3,7 @@ use Rattle.std.specs.Prelude.{ℕ, ◌+◌, nat_lt, count_by, if◌then◌else�
 use Rattle.lg_detector.specs.declared.reply.Reply.{Reply}
 use Rattle.lg_notes.specs.Meaning.About.{suspects_some}
 use Rattle.lg_notes.specs.Meaning.Timers.{ends_round}
-use Rattle.lg_notes.specs.declared.insights.RecentRounds.{RecentRounds}
+use Rattle.lg_explain.specs.declared.rounds.RecentRounds.{RecentRounds}
 use Rattle.lg_explain.specs.declared.rounds.RoundEnd.{RoundEnd}
 
 -- The end of a round, if a reply at this moment has one: when it was, and whether it was with a suspicion.

@@ -8,12 +8,15 @@ use Rattle.lg_notes.specs.Meaning.Insights.{InsightsValue}
 use Rattle.lg_notes.specs.Meaning.Steps.{steps_of}
 use Rattle.lg_notes.specs.Meaning.Watching.{is_calm, watch_behind}
 use Rattle.lg_notes.specs.declared.insights.Insight.{Insight}
-use Rattle.lg_notes.specs.declared.insights.RecentRounds.{RecentRounds}
+use Rattle.lg_explain.specs.declared.rounds.RecentRounds.{RecentRounds}
 use Rattle.lg_notes.specs.declared.watch.Watch.{Watch}
 use Rattle.lg_replay.specs.Meaning.Lives.{past_with}
 use Rattle.lg_replay.specs.Meaning.Words.{moment_of_event}
 use Rattle.lg_explain.specs.Meaning.Places.{PlacedEntry, calm_watch}
 use Rattle.lg_explain.specs.Meaning.Rounds.{end_of_round, recent_rounds}
+use Rattle.lg_explain.specs.Meaning.Standstills.{minute_of, stood_at, stood_in_minute}
+use Rattle.lg_notes.specs.declared.insights.MinuteBefore.{MinuteBefore}
+use Rattle.lg_explain.specs.declared.standstills.StoodStill.{StoodStill}
 use Rattle.lg_accounts.specs.Meaning.Values.{NoteValue}
 use Rattle.lg_explain.specs.Meaning.Told.{EntryTold}
 use Rattle.lg_explain.specs.declared.rounds.RoundEnd.{RoundEnd}
@@ -50,6 +53,18 @@ abbrev pub recent_before : PlacedEntry → List PlacedEntry → RecentRounds
 recent_before x past =
     recent_rounds (greatest_so_far (x ∷ past)) (if is_some x.begun then [] else round_ends past)
 
+-- For how long the clock stood still, as each of some entries says, back to the last one that doesn't go on with the
+-- one before it. Each is at the greatest moment so far.
+abbrev pub all_stood : List PlacedEntry → List StoodStill
+all_stood [] = []
+all_stood (x ∷ past) =
+    stood_at (greatest_so_far (x ∷ past)) x.stood_still_ms ∷ (if is_some x.begun then [] else all_stood past)
+
+-- What was in the minute before an entry. For how long the clock stood still is said by the entry too.
+abbrev pub minute_before : PlacedEntry → List PlacedEntry → MinuteBefore
+minute_before x past =
+    minute_of (recent_before x past) (stood_in_minute (greatest_so_far (x ∷ past)) (all_stood (x ∷ past)))
+
 -- What the definitions say behind some events, the earliest first, of the node and of the member.
 abbrev pub insight_after : List ℕ → List Event → Insight
 insight_after name f = record { score = (own_standing_after f).score; suspicion = suspicion_standing_after f name }
@@ -73,7 +88,7 @@ note_of x past = record {
   teller = teller_of x.subject x.entry.event;
   steps =
       steps_of x.subject (watch_before x past) x.entry.event x.entry.reply
-      (insights_at x.subject.name x.past x.entry.event) (recent_before x past);
+      (insights_at x.subject.name x.past x.entry.event) (minute_before x past);
 }
 
 -- what matters of an entry behind those before it

@@ -7,21 +7,19 @@ use Rattle.lg_text.specs.Meaning.Running.{AppendsFront}
 use Rattle.lg_accounts.specs.declared.account.Account.{Account}
 use Rattle.lg_accounts.specs.Meaning.Accounts.{accounts_text}
 use Rattle.lg_accounts.specs.Meaning.Json.{accounts_json}
-use Rattle.lg_accounts.specs.Meaning.Pages.{accounts_page}
 use Rattle.lg_explain.specs.declared.question.MemberQuestion.{MemberQuestion}
 use Rattle.lg_explain.specs.Meaning.Folders.{ExplainsAll}
 use Rattle.lg_replay.specs.declared.fault.FolderFault.{FolderFault}
 use Rattle.lg_replay.specs.declared.fault.FolderFault.TheVariants.{Unlisted, NoFile, Unread, TooLarge, Memory, Write}
 use Rattle.lg_replay_run.specs.Meaning.Running.{TellsFolderFault}
 use Rattle.lg_explain_run.specs.declared.form.AccountForm.{AccountForm}
-use Rattle.lg_explain_run.specs.declared.form.AccountForm.TheVariants.{Json, Lines, NumberedLines, Page}
+use Rattle.lg_explain_run.specs.declared.form.AccountForm.TheVariants.{Json, Lines, NumberedLines}
 
--- the text of a member's accounts, in a form
+-- the text of a member's accounts, in a form of lines
 abbrev pub written_accounts : AccountForm → (name : List ℕ) → List Account → List ℕ
 written_accounts Lines name accounts = accounts_text name false accounts
 written_accounts NumberedLines name accounts = accounts_text name true accounts
 written_accounts Json name accounts = accounts_json name accounts
-written_accounts Page name accounts = accounts_page name accounts
 
 -- the exit status: 0 if there is an account, else 1
 abbrev pub accounts_status : List Account → ℕ

@@ -92,16 +92,16 @@ RecordsIf false before after = after ≡ before
 
 -- What a status server did, from its state `server` to its state `server'`, by how it ended. If its first look was
 -- refused, or memory for what it shows, it served nobody. Otherwise it did what a status server does that shows this
--- configuration and these settings, under the name of the node's member, to the hosts of its address, and lets itself
--- be asked to leave if the settings say so.
+-- configuration and these settings, under the name of the node's member, to the hosts of its address, lets itself be
+-- asked to leave if the settings say so, and tells of the recording in the folder that they name, if they name one.
 abbrev pub DidServe :
     Config → Settings → (before after : PassValue) (server server' : Server) → Served → Type 0
 DidServe config settings before after server server' (served.Refused refusal) =
     (server' ≡ server) × ((refusal ≡ NoMemory) ⊎ (refusal ≡ NoView))
 DidServe config settings before after server server' (served.Ended end counts) =
     (shown : ShownConfig) × Shows config settings shown
-    × ServedAs (served.Ended end counts) config.name shown settings.leave (hosts_of settings.status) before after
-    server server'
+    × ServedAs (served.Ended end counts) config.name shown settings.leave settings.record_folder
+    (hosts_of settings.status) before after server server'
 
 -- A status server that began with free slots did this. Its pass only looked, however it ended.
 pub record ServesNode (config : Config) (settings : Settings) (before after : PassValue) (end : Served) : Type 0 where

@@ -132,6 +132,7 @@ where
         status: None,
         status_open: false,
         leave: true,
+        record_folder: None,
         keys: None,
     };
     let stop = AtomicBool::new(false);

@@ -109,6 +109,7 @@ fn settings(follow: bool) -> Settings {
         status: None,
         status_open: false,
         leave: true,
+        record_folder: None,
         keys: None,
     }
 }

@@ -58,6 +58,7 @@ fn settings(config: &Config) -> Settings {
         status: None,
         status_open: false,
         leave: true,
+        record_folder: None,
         keys: None,
     }
 }

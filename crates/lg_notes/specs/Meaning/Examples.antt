@@ -16,7 +16,7 @@ use Rattle.lg_detector.specs.declared.event.Event.TheVariants.{Heard}
 use Rattle.lg_detector.specs.declared.reply.Reply.{Reply}
 use Rattle.lg_detector.specs.Meaning.Examples.{a, b, c, d, e, at, nothing, sent, ticks, timer_of}
 use Rattle.lg_accounts.specs.declared.step.NoteStep.TheVariants.{Pinged, Unanswered, Nacked, Acked, RoundEnded, Scored}
-use Rattle.lg_accounts.specs.declared.step.NoteStep.TheVariants.{Told, TimeOver, Changed, Suspected, Rounds}
+use Rattle.lg_accounts.specs.declared.step.NoteStep.TheVariants.{Told, TimeOver, Changed, Suspected, Minute}
 use Rattle.lg_notes.specs.declared.insights.Insight.{Insight}
 use Rattle.lg_suspicion.specs.declared.standing.SuspicionStanding.{SuspicionStanding}
 use Rattle.lg_notes.specs.declared.subject.NoteSubject.{NoteSubject}
@@ -25,7 +25,7 @@ use Rattle.lg_notes.specs.declared.watch.Watch.{Watch}
 use Rattle.lg_notes.specs.Meaning.About.{changes_verdict, record_changed, suspects_some, teller_of}
 use Rattle.lg_notes.specs.Meaning.Insights.{InsightsValue}
 use Rattle.lg_notes.specs.Meaning.Probing.{acked_steps, acker_of, ended_steps, helpers_asked, nacked_steps, nacker_of}
-use Rattle.lg_notes.specs.Meaning.Probing.{pinged_steps, rounds_steps, scored_steps, unanswered_steps}
+use Rattle.lg_notes.specs.Meaning.Probing.{pinged_steps, minute_steps, scored_steps, unanswered_steps}
 use Rattle.lg_notes.specs.Meaning.Steps.{steps_of}
 use Rattle.lg_notes.specs.Meaning.Suspecting.{changed_steps, suspected_steps, time_over_steps, told_claims, told_steps}
 use Rattle.lg_notes.specs.Meaning.Timers.{ends_round}
@@ -34,7 +34,7 @@ use Rattle.lg_notes.specs.Meaning.Watching.{ping_of_start}
 -- What has to be unfolded to compute the steps of a worked entry.
 unfoldable pub by_computing : Unit {0}
 unfolding acked_steps acker_of changed_steps ended_steps helpers_asked nacked_steps nacker_of ping_of_start pinged_steps
-    ratio_of record_changed rounds_steps scored_steps steps_of suspected_steps time_over_steps timeout_of told_claims
+    ratio_of record_changed minute_steps scored_steps steps_of suspected_steps time_over_steps timeout_of told_claims
     told_steps unanswered_steps
 by_computing = tt
 
@@ -255,7 +255,7 @@ told_in_vain = refl
 
 -- The time was over, and no refutation had come. We took it as failed.
 time_over : steps_of of_c unwatched (ticks 7020) (changes Failed (fires 7020 (Suspicion (c ∷ [])))) None
-    (record { ended = 3; suspected = 1 })
+    (record { ended = 3; suspected = 1; stood_still_ms = 20 })
     ≡ TimeOver ∷ Changed (c_is Failed) ∷ []
 unfolding by_computing
 time_over = refl
@@ -281,15 +281,17 @@ suspected_still = refl
 
 -- The round ended without an Ack. Our health score rose from 0 to 2. We suspected it at incarnation 0. We knew 5 live
 -- members. After 0 of 3 confirmations the timeout was 20904 ms. In the minute before, 54 of our rounds ended, 3 of them
--- with a suspicion.
+-- with a suspicion, and our clock stood still for 2000 ms.
 round_with_suspicion : steps_of of_c probed (ticks 2020) (changes (Suspect (b ∷ [])) ends) suspected_at_end
-    (record { ended = 54; suspected = 3 })
-    ≡ RoundEnded true ∷ Scored 0 2 ∷ Changed (c_is (Suspect (b ∷ []))) ∷ Suspected 5 0 3 20904 ∷ Rounds 54 3 ∷ []
+    (record { ended = 54; suspected = 3; stood_still_ms = 2000 })
+    ≡ RoundEnded true ∷ Scored 0 2 ∷ Changed (c_is (Suspect (b ∷ []))) ∷ Suspected 5 0 3 20904 ∷ Minute 54 3 2000
+    ∷ []
 unfolding by_computing
 round_with_suspicion = refl
 
 -- a start of a round that follows a probe of c begins another
-pinged_again : steps_of of_c probed (ticks 1020) starts unmoved (record { ended = 0; suspected = 0 })
+pinged_again : steps_of of_c probed (ticks 1020) starts unmoved
+    (record { ended = 0; suspected = 0; stood_still_ms = 0 })
     ≡ Pinged 7 (at 7103) ∷ []
 unfolding by_computing
 pinged_again = refl

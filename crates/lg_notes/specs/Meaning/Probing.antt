@@ -16,8 +16,8 @@ use Rattle.lg_detector.specs.declared.reply.Reply.{Reply}
 use Rattle.lg_accounts.specs.declared.step.Helper.{Helper}
 use Rattle.lg_accounts.specs.declared.step.NoteStep.{NoteStep}
 use Rattle.lg_accounts.specs.declared.step.NoteStep.TheVariants.{Pinged, Unanswered, Nacked, Acked}
-use Rattle.lg_accounts.specs.declared.step.NoteStep.TheVariants.{RoundEnded, Scored, Rounds}
-use Rattle.lg_notes.specs.declared.insights.RecentRounds.{RecentRounds}
+use Rattle.lg_accounts.specs.declared.step.NoteStep.TheVariants.{RoundEnded, Scored, Minute}
+use Rattle.lg_notes.specs.declared.insights.MinuteBefore.{MinuteBefore}
 use Rattle.lg_notes.specs.declared.subject.NoteSubject.{NoteSubject}
 use Rattle.lg_notes.specs.declared.watch.FirstPing.{FirstPing}
 use Rattle.lg_notes.specs.declared.watch.RunningProbe.{RunningProbe}
@@ -129,8 +129,9 @@ score_told told (Some known) =
 unfoldable pub scored_steps : NoteSubject → Option RunningProbe → Event → Reply → Option InsightsValue → List NoteStep
 scored_steps subject probe e r known = score_told (is_some (acker_of subject probe e) || ends_probe probe r) known
 
--- How the rounds of the minute before ended, where the round of a probe of the member ended and its record became
--- suspect by that.
-unfoldable pub rounds_steps : List ℕ → Option RunningProbe → Reply → RecentRounds → List NoteStep
-rounds_steps name probe r rounds =
-    if ends_probe probe r && suspects_member name r then Rounds rounds.ended rounds.suspected ∷ [] else []
+-- How the rounds of the minute before ended, and for how long the clock stood still in it, if the round of a probe of
+-- the member ended and its record became suspect by that.
+unfoldable pub minute_steps : List ℕ → Option RunningProbe → Reply → MinuteBefore → List NoteStep
+minute_steps name probe r minute =
+    if ends_probe probe r && suspects_member name r
+    then Minute minute.ended minute.suspected minute.stood_still_ms ∷ [] else []

@@ -41,3 +41,13 @@ pub record LeavesOut {X : Type 0} (xs all : List X) : Type 0 where
   pub mask : List Bool
   pub each : length mask ≡ length all
   pub are : masked mask all ≡ xs
+
+-- A source took from an origin, as the last thing that was done to it: before that, takings had made something else of
+-- the origin, or nothing. Whether the batch was taken, and which batch the source is then, are those of that taking.
+pub record TookLast {O : Type 0}
+    (took : O → O → Type 0) (taking : O → Bool → BatchValue → O → Type 0)
+    (before : O) (is_taken : Bool) (batch : BatchValue) (after : O)
+    : Type 0 where
+  pub between : O
+  pub earlier : took before between
+  pub last : taking between is_taken batch after

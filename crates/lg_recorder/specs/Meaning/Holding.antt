@@ -80,3 +80,10 @@ pub record HoldsMore
     : Type 0 where
   pub more : List BatchValue
   pub holds : Holds size (more ++ batches) past file
+
+-- the same, where the latest of the batches is this one
+pub record HoldsLast
+    (size : ℕ) (batches : List BatchValue) (last : BatchValue) (past : List FolderEvent) (file : Option OpenFile)
+    : Type 0 where
+  pub more : List BatchValue
+  pub holds : Holds size (last ∷ more ++ batches) past file

@@ -18,6 +18,7 @@ use Rattle.lg_detector.specs.declared.reply.Outgoing.{Outgoing}
 use Rattle.lg_detector.specs.declared.reply.Reply.{Reply}
 use Rattle.lg_history.specs.Meaning.History.{Entry}
 use Rattle.lg_fields.specs.Meaning.Spelled.{IsCount, IsPlace, IsTellable, AreRecords, IsConfigSpelled}
+use Rattle.lg_recording.specs.Meaning.Values.{RecordedEntry}
 use Rattle.lg_recording.specs.Meaning.Spelling.{greatest_seat, most_sent, most_names, words_of_event}
 
 -- the moment of an event: at most the last one
@@ -94,3 +95,8 @@ pub record IsEntrySpelled (e : Entry) : Type 0 where
   pub seat : e.seat ≤ greatest_seat
   pub event : IsEventSpelled e.event
   pub reply : IsReplySpelled e.reply
+
+-- an entry that has a spelling, and a number of 64 bits
+pub record IsRecordedSpelled (x : RecordedEntry) : Type 0 where
+  pub entry : IsEntrySpelled x.entry
+  pub stood_still : IsCount x.stood_still_ms

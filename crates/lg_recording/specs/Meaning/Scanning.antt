@@ -17,6 +17,7 @@ use Rattle.lg_fields.specs.declared.fault.FieldFault.{FieldFault}
 use Rattle.lg_fields.specs.declared.fault.FieldFault.TheVariants as faults
 use Rattle.lg_fields.specs.Meaning.Scanned.{◌>>=◌, count_scan, flag_scan, place_scan, told_scan, records_scan}
 use Rattle.lg_fields.specs.Meaning.Scanned.{config_scan, label_scan, word_scan, incarnation_scan, moment_scan, few_scan}
+use Rattle.lg_recording.specs.Meaning.Values.{RecordedEntry, with_standstill}
 use Rattle.lg_recording.specs.Meaning.Spelling.{greatest_seat, most_sent, most_names, words_of_event}
 
 -- this many fields of one kind, one behind the other
@@ -211,12 +212,19 @@ entry_scan bytes = do
   reply ← reply_scan event.1
   Ok (record { seat = seat.0; event = event.0; reply = reply.0 }, reply.1)
 
+-- an entry with how long the clock stood still before it
+unfoldable pub recorded_scan : List ℕ → Result (RecordedEntry × List ℕ) FieldFault
+recorded_scan bytes = do
+  entry ← entry_scan bytes
+  stood_still ← count_scan entry.1
+  Ok (with_standstill entry.0 stood_still.0, stood_still.1)
+
 -- what takes up all of the bytes
 abbrev pub whole_of : {X : Type 0} → X × List ℕ → Result X FieldFault
 whole_of x = if length x.1 == 0 then Ok x.0 else Err faults.Trailing
 
 -- the entry that a body is
-unfoldable pub entry_of : List ℕ → Result Entry FieldFault
-entry_of body = do
-  entry ← entry_scan body
-  whole_of entry
+unfoldable pub recorded_of : List ℕ → Result RecordedEntry FieldFault
+recorded_of body = do
+  recorded ← recorded_scan body
+  whole_of recorded

@@ -16,6 +16,7 @@ use Rattle.lg_detector.specs.declared.reply.Reply.{Reply}
 use Rattle.lg_history.specs.Meaning.History.{Entry}
 use Rattle.lg_fields.specs.Meaning.Spelled.{spelled_count, spelled_flag, spelled_place, spelled_told, spelled_records}
 use Rattle.lg_fields.specs.Meaning.Spelled.{spelled_config}
+use Rattle.lg_recording.specs.Meaning.Values.{RecordedEntry, with_standstill}
 
 -- the greatest seat of an entry: an agent has at most so many places
 abbrev pub greatest_seat : ℕ
@@ -91,9 +92,13 @@ spelled_reply r =
     ++ (spelled_names r.forgotten.items
     ++ (spelled_answer r.answer ++ (spelled_flag r.ousted ++ spelled_count r.next)))))
 
--- the body of an entry: a byte for its seat, its event and its reply
+-- an entry alone: a byte for its seat, its event and its reply
 unfoldable pub spelled_entry : Entry → List ℕ
 spelled_entry e = e.seat ∷ (spelled_event e.event ++ spelled_reply e.reply)
+
+-- the body of an entry: the entry, and for how many milliseconds the clock stood still before it
+unfoldable pub spelled_recorded : RecordedEntry → List ℕ
+spelled_recorded x = spelled_entry x.entry ++ spelled_count x.stood_still_ms
 
 -- What is told of an entry: each packet as what its version can tell, and all else as it is.
 abbrev pub told_event : Event → Event
@@ -117,5 +122,8 @@ told_reply r = record r { sends = record { items = told_sends r.sends.items } }
 abbrev pub told_entry : Entry → Entry
 told_entry e = record e { event = told_event e.event; reply = told_reply e.reply }
 
-abbrev pub told_entries : List Entry → List Entry
-told_entries entries = map told_entry entries
+abbrev pub told_recorded : RecordedEntry → RecordedEntry
+told_recorded x = with_standstill (told_entry x.entry) x.stood_still_ms
+
+abbrev pub told_entries : List RecordedEntry → List RecordedEntry
+told_entries entries = map told_recorded entries

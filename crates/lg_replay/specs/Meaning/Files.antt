@@ -1,10 +1,10 @@
 -- What is told of a file of a recording, and what is known behind it.
 use Rattle.std.specs.Prelude.{ℕ, List, [], ◌++◌, Option, Some, None, Result, Ok, Err, codes, decimal}
 use Rattle.lg_detector.specs.declared.event.Event.{Event}
-use Rattle.lg_history.specs.Meaning.History.{Entry}
 use Rattle.lg_fields.specs.declared.fault.FieldFault.{FieldFault}
 use Rattle.lg_heads.specs.Meaning.Heads.{HeadValue}
 use Rattle.lg_recording.specs.Meaning.Listing.{entries_scan}
+use Rattle.lg_recording.specs.Meaning.Values.{RecordedEntry, entries_alone}
 use Rattle.lg_text.specs.Meaning.Lines.{newline}
 use Rattle.lg_replay.specs.declared.verdict.Verdict.{Verdict}
 use Rattle.lg_replay.specs.declared.window.Window.{Window}
@@ -19,10 +19,11 @@ pub record RecordingFile : Type 0 where
   pub number : ℕ
   pub bytes : List ℕ
 
--- what is read of a file: its head, its entries up to the first fault, and that fault
+-- What is read of a file: its head, its entries up to the first fault, and that fault. The replay goes by the entries
+-- alone, and not by how long the node's clock stood still before them.
 pub record FileRead : Type 0 where
   pub head : HeadValue
-  pub entries : List Entry
+  pub entries : List RecordedEntry
   pub fault : Option FieldFault
 
 abbrev pub read_behind : Result (HeadValue × List ℕ) FieldFault → Result FileRead FieldFault
@@ -34,7 +35,7 @@ read_of file = read_behind (file_head_scan file.bytes)
 
 -- The life behind a file. If its head can't be read, it is that before it.
 abbrev pub life_over_read : Life → Result FileRead FieldFault → Life
-life_over_read life (Ok read) = life_behind (life_from read.head.first life) read.entries
+life_over_read life (Ok read) = life_behind (life_from read.head.first life) (entries_alone read.entries)
 life_over_read life (Err fault) = life
 
 abbrev pub life_over : Life → RecordingFile → Life
@@ -42,7 +43,7 @@ life_over life file = life_over_read life (read_of file)
 
 -- the verdicts on the entries of a file
 abbrev pub verdicts_of_read : Life → Result FileRead FieldFault → List Verdict
-verdicts_of_read life (Ok read) = verdicts_on (life_from read.head.first life) read.entries
+verdicts_of_read life (Ok read) = verdicts_on (life_from read.head.first life) (entries_alone read.entries)
 verdicts_of_read life (Err fault) = []
 
 abbrev pub file_verdicts : Life → RecordingFile → List Verdict
@@ -70,7 +71,7 @@ abbrev pub read_text : Window → ℕ → Life → Result FileRead FieldFault �
 read_text window number life (Ok read) =
     let from = life_from read.head.first life in
     head_line number read.head ++ gap_text read.head.first from.past
-    ++ entries_text window read.head.first from read.entries read.fault
+    ++ entries_text window read.head.first from (entries_alone read.entries) read.fault
 read_text window number life (Err fault) = headless_line number fault
 
 abbrev pub file_text : Window → Life → RecordingFile → List ℕ

@@ -4,18 +4,23 @@ use Rattle.std.specs.Prelude.{List, [], ◌∷◌, ◌++◌, length, Option, Som
 use Rattle.lg_detector.specs.declared.reply.Reply.{Reply}
 use Rattle.lg_history.specs.Meaning.History.{Entry, entry}
 use Rattle.lg_recording.specs.Meaning.Listing.{entry_chunk}
+use Rattle.lg_recording.specs.Meaning.Values.{with_standstill}
 use Rattle.lg_text.specs.Meaning.Lines.{newline}
 use Rattle.lg_replay.specs.Meaning.Lives.{Life, due_reply, life_with}
 use Rattle.lg_replay.specs.declared.counts.ReplayCounts.{ReplayCounts}
 use Rattle.lg_replay.specs.declared.verdict.Verdict.{Verdict}
 use Rattle.lg_replay.specs.declared.verdict.Verdict.TheVariants.{Same, Differs, Unchecked}
 
+-- an entry alone, as it is recorded if the clock didn't stand still before it
+abbrev pub chunk_alone : Entry → List ℕ
+chunk_alone x = entry_chunk (with_standstill x 0)
+
 -- The verdict on an entry, by the reply that is due: whether the same seat and event with that reply are recorded by
--- the same bytes. Without a due reply the entry can't be checked.
+-- the same bytes, if the clock didn't stand still. Without a due reply the entry can't be checked.
 unfoldable pub verdict_by : Option Reply → Entry → Verdict
 verdict_by None x = Unchecked
 verdict_by (Some due) x =
-    if bytes_eq (entry_chunk x) (entry_chunk (entry x.seat x.event due)) then Same else Differs
+    if bytes_eq (chunk_alone x) (chunk_alone (entry x.seat x.event due)) then Same else Differs
 
 abbrev pub verdict_on : Life → Entry → Verdict
 verdict_on life x = verdict_by (due_reply life.past x.event) x

@@ -4,7 +4,8 @@ use Rattle.std.specs.Prelude.{[], ◌∷◌, ◌++◌, Option, Some, None, Resul
 use Rattle.lg_fields.specs.declared.fault.FieldFault.{FieldFault}
 use Rattle.lg_history.specs.Meaning.History.{Entry}
 use Rattle.lg_recording.specs.Meaning.Listing.{entries_scan, listing}
-use Rattle.lg_recording.specs.Meaning.Next.{entry_in}
+use Rattle.lg_recording.specs.Meaning.Next.{recorded_in}
+use Rattle.lg_recording.specs.Meaning.Values.{entries_alone}
 use Rattle.lg_recording.specs.declared.recorded.Recorded.{Recorded}
 use Rattle.lg_replay.specs.declared.replayer.Replayer.{Replayer}
 use Rattle.lg_replay.specs.declared.verdict.Verdict.{Verdict}
@@ -41,7 +42,7 @@ pub record IsReplayed (r : Replayer) (files : List RecordingFile) : Type 0 where
 abbrev pub ReadsNext : List ℕ → List ℕ → Result (Option Recorded) FieldFault → Type 0
 ReadsNext bytes left (Ok None) = entries_scan bytes ≡ listing [] None
 ReadsNext bytes left (Ok (Some x)) =
-    entries_scan bytes ≡ listing (entry_in x ∷ (entries_scan left).entries) (entries_scan left).fault
+    entries_scan bytes ≡ listing (recorded_in x ∷ (entries_scan left).entries) (entries_scan left).fault
 ReadsNext bytes left (Err fault) = entries_scan bytes ≡ listing [] (Some fault)
 
 -- What a replayer has noted of the files themselves stays.
@@ -63,10 +64,10 @@ pub record RanEntry (new : Replayer) (text longer : List ℕ) (window : Window) 
 -- A replayer went through the entries that some bytes hold, and what is told of them was appended to a text.
 pub record RanEntries (new : Replayer) (text longer : List ℕ) (window : Window) (number : ℕ) (bytes : List ℕ)
     (life : Life) (verdicts : List Verdict) : Type 0 where
-  pub come : HasCome new (life_behind life (entries_scan bytes).entries)
-      (verdicts ++ verdicts_on life (entries_scan bytes).entries)
+  pub come : HasCome new (life_behind life (entries_alone (entries_scan bytes).entries))
+      (verdicts ++ verdicts_on life (entries_alone (entries_scan bytes).entries))
   pub writes : longer
-      ≡ text ++ entries_text window number life (entries_scan bytes).entries (entries_scan bytes).fault
+      ≡ text ++ entries_text window number life (entries_alone (entries_scan bytes).entries) (entries_scan bytes).fault
 
 -- A replayer went through a file that was read, and what is told of it was appended to a text.
 pub record RanRead (old new : Replayer) (text longer : List ℕ) (window : Window) (number : ℕ) (read : FileRead)

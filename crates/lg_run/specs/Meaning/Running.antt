@@ -99,11 +99,13 @@ node_settings n keys follow = record {
   status = n.status;
   status_open = n.status_open;
   leave = n.leave;
+  record_folder = n.record_folder;
   keys = keys;
 }
 
 -- The node of a configuration ran with these keys until a moment. If it followed, its watcher wrote all that the writer
--- gained. It was recorded if the configuration names a folder for that.
+-- gained. It was recorded if the configuration names a folder for that, and its status server told of the recording
+-- there.
 abbrev pub HasRun : NodeConfig → Option Keys → ℕ → Bool → (held holds : Option (List ℕ)) → NodeEnd → Type 0
 HasRun n keys until follow held holds e =
     IsRun n.config (node_settings n keys follow) until held holds (is_some n.record_folder) e

@@ -1,5 +1,5 @@
 -- What a status server does from its start to its end, and how it says why it ended (this project's choice).
-use Rattle.std.specs.Prelude.{◌≡◌, ◌⊎◌, ℕ, Bool, ◌-◌, ◌^◌, ◌≤◌, List, [], codes}
+use Rattle.std.specs.Prelude.{◌≡◌, ◌⊎◌, ℕ, Bool, ◌-◌, ◌^◌, ◌≤◌, List, [], Option, codes}
 use Rattle.lg_agent.specs.declared.refusal.Refusal.TheVariants.{NoMemory, NoView}
 use Rattle.lg_agent.specs.Meaning.Values.{PassValue}
 use Rattle.lg_follow.specs.Meaning.Sights.{OnlyLooked}
@@ -19,17 +19,17 @@ abbrev pub SiteRepliesTo : Hosts → SiteReplies SiteValue
 SiteRepliesTo hosts =
     Replies IsAnswerOf IsActOf (λ site. site.changed) (λ path query wait. wait ≡ wait_of path query) hosts
 
--- A status server served a site from its first look on, whose node may be asked to leave or may not: the site went on
--- from there, and its pass is what is left of it. If the server's slots were free, each request was answered from a
+-- A status server served a site from its first look on, whose node may be asked to leave or may not, and has its
+-- recording in this folder if it has one: the site went on from there, and its pass is what is left of it. If the server's slots were free, each request was answered from a
 -- state that the site had on the way, those of connections that have ended too.
 pub record HasServedSite
-    (name : List ℕ) (config : ShownConfig) (leave : Bool) (hosts : Hosts) (before after : PassValue)
-    (server server' : Server)
+    (name : List ℕ) (config : ShownConfig) (leave : Bool) (folder : Option (List ℕ)) (hosts : Hosts)
+    (before after : PassValue) (server server' : Server)
     : Type 0 where
   pub first : SiteValue
   pub last : SiteValue
   pub looked : OnlyLooked before first.pass
-  pub is_first : IsFirst first name config leave
+  pub is_first : IsFirst first name config leave folder
   pub goes_on : IsLater first last
   pub free : AreFree (slots_of server)
       → AreServed (SiteRepliesTo hosts) IsLater last server.slots server'.slots
@@ -38,11 +38,12 @@ pub record HasServedSite
 -- What a status server did, by how it ended. If its first look was refused, it served nobody. It stopped only if it was
 -- told to, or after so many turns.
 abbrev pub ServedAs :
-    Served → List ℕ → ShownConfig → Bool → Hosts → (before after : PassValue) → (server server' : Server) → Type 0
-ServedAs (Refused refusal) name config leave hosts before after server server' =
+    Served → List ℕ → ShownConfig → Bool → Option (List ℕ) → Hosts → (before after : PassValue)
+    → (server server' : Server) → Type 0
+ServedAs (Refused refusal) name config leave folder hosts before after server server' =
     OnlyLooked before after × (server' ≡ server) × ((refusal ≡ NoMemory) ⊎ (refusal ≡ NoView))
-ServedAs (Ended end counts) name config leave hosts before after server server' =
-    HasServedSite name config leave hosts before after server server'
+ServedAs (Ended end counts) name config leave folder hosts before after server server' =
+    HasServedSite name config leave folder hosts before after server server'
     × (end ≡ Stopped → IsTold server' ⊎ (2 ^ 64 - 1 ≤ counts.turns))
 
 -- why a status server ended before its node; there is no line if it was told to stop

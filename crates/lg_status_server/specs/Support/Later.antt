@@ -13,6 +13,7 @@ later_itself site = record {
   name_is = refl;
   config_is = refl;
   leave_is = refl;
+  folder_is = refl;
 }
 
 pub shows_through : (a b c : SiteValue) → IsLater a b → IsLater b c
@@ -30,4 +31,5 @@ later_on a b c p q = record {
   name_is = q.name_is ∙ p.name_is;
   config_is = q.config_is ∙ p.config_is;
   leave_is = q.leave_is ∙ p.leave_is;
+  folder_is = q.folder_is ∙ p.folder_is;
 }

@@ -1,4 +1,5 @@
-use Rattle.std.proofs.Common.{[], rules}
+use Rattle.std.proofs.Common.{[], rules, subst}
+use Rattle.lg_node.specs.Meaning.Nodes.{WatchesIf}
 use Rattle.lg_turns.specs.Meaning.Turns.{line}
 use Rattle.lg_turns.specs.Meaning.NodeLinks.{failures_of}
 use Rattle.lg_node.proofs.start.open_and_serve.Goals as goal
@@ -51,7 +52,10 @@ returns-clause-ran g c =
                       threads.ensures.ran;
                   counted = rw end.ticked left.ensures.counted;
                 };
-            told = search rules;
+            told = rw (end.watched, left.ensures.watched)
+                (subst (λ h. WatchesIf c.args.setup.now.settings.now.follow ready.asker threads.result.0.0 (g.W.Write.contents c.args.writer.now) (g.W.Write.contents h) threads.result.0.1.1)
+                (search rules)
+                (rw (c.new-watching.ensures.followed, c.new-watching.ensures.pass, c.new-watching.ensures.writer) at threads.ensures.watched.1));
             shown = rw (end.served, left.ensures.served, left.ensures.passes.2) (rw (told.0, told.1, told.2, c.requires.serving, begun.status_is) at threads.ensures.served);
             read = rw end.members left.ensures.read;
           };

@@ -1,3 +1,4 @@
+use Rattle.std.proofs.Common.{◌++◌}
 use Rattle.lg_recorder.proofs.HoldingLaws.{more_none, more_through}
 use Rattle.lg_recorder.proofs.running.record_until.Goals as goal
 
@@ -24,3 +25,14 @@ returns-clause-holds g c = λ told batches holds.
 
 pub returns-clause-took : goal.returns-clause-took
 returns-clause-took g c = g.met.S.BatchSource.took_twice c.args.origin.now c.loop.origin c.finish.new.origin c.loop.invariant.took c.finish.ensures.took
+
+pub returns-clause-last : goal.returns-clause-last
+returns-clause-last g c = record { between = c.loop.origin; earlier = c.loop.invariant.took; last = c.finish.ensures.taking }
+
+pub returns-clause-handed : goal.returns-clause-handed
+returns-clause-handed g c = λ told taken batches holds.
+    let before = c.loop.invariant.holds told batches holds in
+    record { more = before.more; holds = c.finish.ensures.handed told taken (before.more ++ batches) before.holds }
+
+pub returns-clause-told : goal.returns-clause-told
+returns-clause-told g c = λ untaken. (g.T.FaultStream.reported c.loop.faults, c.finish.ensures.told untaken)

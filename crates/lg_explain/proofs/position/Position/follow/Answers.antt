@@ -1,5 +1,5 @@
 use Rattle.lg_heads.specs.Meaning.Heads.{head_value}
-use Rattle.lg_recording.specs.Meaning.Next.{entry_in}
+use Rattle.lg_recording.specs.Meaning.Next.{recorded_in}
 use Rattle.lg_accounts.specs.Meaning.Values.{note_value}
 use Rattle.lg_explain.proofs.PositionLaws.{passed, told_of}
 use Rattle.lg_explain.proofs.position.Position.follow.Goals as goal
@@ -8,7 +8,7 @@ pub returns : goal.returns
 returns c =
     let noted = c.in_ok-note.ensures.noted in
     let head = head_value c.args.head.now in
-    let x = entry_in c.args.recorded.now in
+    let x = recorded_in c.args.recorded.now in
     record {
       at = λ r at.
           passed c.args.self.now c.note.new.self c.pass.new.self c.args.name.now head r x c.note_subject-subject.result c.note_subject-subject.ensures at noted.past

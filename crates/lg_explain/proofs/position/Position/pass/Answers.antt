@@ -11,4 +11,5 @@ returns c =
       greatest = c.later-self.ensures ∙ ap (λ (n : ℕ). max c.args.self.now.greatest n) c.moment_of_event.ensures;
       watch = c.behind-self.ensures;
       ends = λ all keeps. c.in_ok-add_end.ensures c.args.self.now.greatest all later keeps;
+      stood = λ all keeps. c.in_ok-add_stood.ensures c.args.self.now.greatest all later keeps;
     }

@@ -1,5 +1,5 @@
 use Rattle.std.proofs.Common.{Some, None, append-nil, sym}
-use Rattle.lg_recording.specs.Meaning.Next.{entry_in}
+use Rattle.lg_recording.specs.Meaning.Next.{recorded_in}
 use Rattle.lg_replay.proofs.EntriesLaws.{gone_all, gone_on, next_none, next_some}
 use Rattle.lg_replay.proofs.replayer.Replayer.replay_entries.Goals as goal
 
@@ -15,5 +15,5 @@ returns-in-Err-clause-ran c =
 pub entries-preserved : goal.entries-preserved
 entries-preserved c =
     let is = next_some _ _ _ c.in-Ok-Some.recorded c.in-Ok-Some.field-0-is c.in-Ok-Some.ensures in
-    gone_on _ _ _ _ _ _ _ _ _ _ _ _ _ (entry_in c.in-Ok-Some.recorded) c.entries.invariant is
+    gone_on _ _ _ _ _ _ _ _ _ _ _ _ _ (recorded_in c.in-Ok-Some.recorded) c.entries.invariant is
     c.in_ok-replay_entry-in-Ok-Some.ensures.ran c.in_ok-replay_entry-in-Ok-Some.ensures.notes c.in_ok-number.ensures

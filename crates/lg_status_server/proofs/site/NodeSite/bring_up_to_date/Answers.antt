@@ -1,3 +1,4 @@
+use Rattle.std.specs.Option.{option_map}
 use Rattle.lg_status_server.specs.Meaning.Shown.{SiteValue}
 use Rattle.lg_status_server.proofs.ShownLaws.{site_look, later_look}
 use Rattle.lg_status_server.proofs.site.NodeSite.bring_up_to_date.Goals as goal
@@ -11,6 +12,7 @@ invariant_of-self g c =
       changes = c.self.inside.changes;
       config = c.self.inside.basis.config;
       leave = c.self.inside.basis.leave;
+      folder = option_map (λ f. f.now) c.self.inside.basis.folder;
       changed = c.self.inside.changed;
       looked = c.self.inside.looked;
     } in
@@ -27,6 +29,7 @@ returns g c =
       changes = c.self.inside.changes;
       config = c.self.inside.basis.config;
       leave = c.self.inside.basis.leave;
+      folder = option_map (λ f. f.now) c.self.inside.basis.folder;
       changed = c.self.inside.changed;
       looked = c.self.inside.looked;
     } in

@@ -1,0 +1,2 @@
+-- What only carries the proofs.
+pub mod Pages
