@@ -242,10 +242,11 @@ class Page:
             self.put_wide(head, rows)
 
     def put_narrow(self, head, rows):
-        """Shows a table as one."""
+        """Shows a table as one. It isn't kept on one page: man shows a page as one long one, whose length grows, and loses
+        a table that has to be kept and stands just where it grows."""
         count = len(head)
         self.paragraph()
-        self.add(".TS", " ".join(["lb"] * count), f"{' '.join(['l'] * count)}.")
+        self.add(".TS", "nokeep;", " ".join(["lb"] * count), f"{' '.join(['l'] * count)}.")
         for row in [head, *rows]:
             self.add(guarded("\t".join(shown(it) for it in row)))
         self.add(".TE")
