@@ -54,6 +54,8 @@ where
     summary: Option<Summary>,
     /// How many of them each seat made.
     cut: [u64; SEATS],
+    /// How many of all entries each seat made, so that a rotation needn't go over the stored ones.
+    made: [u64; SEATS],
     name: Name,
     history: History,
     detector: Detector,
@@ -64,10 +66,10 @@ impl<A: AgentName> Model for Kept<A>
 where
     Published<A>: Absorb<Update<A>, State = [Event; 0]>,
 {
-    ghost use Rattle.std.specs.Prelude.{◌≡◌, ◌<◌, ◌≤◌, ◌+◌, ◌++◌, [], length, take, None};
+    ghost use Rattle.std.specs.Prelude.{◌≡◌, ℕ, ◌<◌, ◌≤◌, ◌+◌, ◌++◌, [], length, take, None};
     ghost use Rattle.lg_detector.specs.Support.Step.{state_after};
     ghost use Rattle.lg_history.specs.Meaning.History.{events};
-    ghost use Rattle.lg_history.specs.Meaning.Rest.{IsRest, StandsFor};
+    ghost use Rattle.lg_history.specs.Meaning.Rest.{IsRest, StandsFor, made_by, of_seat};
     ghost use Rattle.lg_agent.specs.Meaning.Values.{KeptValue, own_name, own_limit};
     ghost use Rattle.lg_detector.specs.declared.detector.TheConstants.{MAX_EVENTS};
     ghost use Rattle.lg_agent.specs.declared.kept.TheConstants.{MAX_PLACES, SEATS};
@@ -97,7 +99,9 @@ where
         × (0 < k.places)
         × (k.places ≤ MAX_PLACES)
         × (k.places ≡ A.places)
-        × (length k.cut ≡ SEATS) };
+        × (length k.cut ≡ SEATS)
+        × (length k.made ≡ SEATS)
+        × ((seat : ℕ) → of_seat k.made seat ≡ of_seat k.cut seat + made_by seat k.history.entries) };
 }
 
 impl<A: AgentName> Kept<A> {
@@ -240,6 +244,7 @@ impl<A: AgentName> Kept<A> {
         self.detector.step(event, reply);
         self.history.complete(alloc, reply);
         self.feed.publish(rt);
+        self.made[seat] += 1;
         let place = self.count;
         self.count += 1;
         Ok(place)
@@ -326,6 +331,7 @@ impl<A: AgentName> Kept<A> {
             base,
             summary,
             cut: _,
+            made: _,
             name: _,
             history,
             detector,

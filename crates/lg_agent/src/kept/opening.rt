@@ -92,6 +92,8 @@ impl<A: AgentName> Kept<A> {
             return Err(Refusal::NoMemory);
         };
         feed.publish(rt);
+        let mut made = [0; SEATS];
+        made[0] = 1;
         Ok(Kept {
             places,
             limit,
@@ -99,6 +101,7 @@ impl<A: AgentName> Kept<A> {
             base: 0,
             summary: None,
             cut: [0; SEATS],
+            made,
             name,
             history,
             detector,

@@ -2,18 +2,15 @@
 //!
 //! Defined in: `specs/Meaning/Calls.antt`, `specs/Meaning/Values.antt`, `lg_history/specs/Meaning/Rest.antt`.
 //! Tested in: `lg_agent_tests/src/agent/rotating.rt`, `lg_agent_tests/src/agent/cutting.rt`.
-ghost use Rattle.std.specs.Prelude.{◌≡◌, ◌≤◌, ◌+◌, ℕ, All, length, IfOk, IfErr};
-ghost use Rattle.lg_history.specs.Meaning.Rest.{made_by, of_seat};
+ghost use Rattle.std.specs.Prelude.{◌≡◌, length, IfOk, IfErr};
 ghost use Rattle.lg_agent.specs.declared.refusal.Refusal.TheVariants.{NoMemory};
 ghost use Rattle.lg_agent.specs.Meaning.Values.{nothing_cut_off, handed_out};
 ghost use Rattle.lg_agent.specs.Meaning.Calls.{IsRotated, IsCutOff};
 
-use super::{Kept, MAX_PLACES, SEATS};
+use super::Kept;
 use crate::cut_off::CutOff;
 use crate::name::AgentName;
 use crate::refusal::Refusal;
-use lg_detector::MAX_EVENTS;
-use lg_history::Entry;
 use std::alloc::Global;
 use std::mem;
 
@@ -31,7 +28,7 @@ impl<A: AgentName> Kept<A> {
             return Err(Refusal::NoMemory);
         };
         let dropped = self.history.len();
-        count_seats(&mut self.cut, self.history.entries());
+        self.cut = self.made;
         self.history.clear();
         self.summary = Some(summary);
         self.base = self.count;
@@ -56,22 +53,10 @@ impl<A: AgentName> Kept<A> {
             return Err(Refusal::NoMemory);
         };
         let moved = self.history.len();
-        count_seats(&mut self.cut, self.history.entries());
+        self.cut = self.made;
         let before = mem::replace(&mut self.summary, Some(summary));
         into.fill(&mut self.history, before, self.base);
         self.base = self.count;
         Ok(moved)
-    }
-}
-
-/// Adds to the count of each seat how many of these entries it made.
-fn count_seats(counts: &mut [u64; SEATS], entries: &[Entry])
-    requires seats { All (λ x. x.seat ≤ MAX_PLACES) entries.now }
-    requires room { (seat : ℕ) → of_seat counts.old seat + length entries.now ≤ MAX_EVENTS }
-    ensures counts { (seat : ℕ) → of_seat counts.new seat ≡ of_seat counts.old seat + made_by seat entries.now }
-    ensures long { length counts.new ≡ SEATS }
-{
-    for entry in entries {
-        counts[entry.seat()] += 1;
     }
 }

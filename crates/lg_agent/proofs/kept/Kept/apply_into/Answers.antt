@@ -1,11 +1,14 @@
-use Rattle.std.proofs.Common.{rules, ◌≡◌, ◌∷◌, ◌++◌, [], List, ap, sym, ◌∙◌, arith, refl, take}
+use Rattle.std.proofs.Common.{rules, ◌≡◌, ◌+◌, ◌∷◌, ◌++◌, [], List, ap, sym, ◌∙◌, arith, refl, take}
 use Rattle.std.specs.Prelude.{Some, None}
+use Rattle.std.proofs.lemmas.List.{length-set}
 use Rattle.lg_detector.specs.declared.event.Event.{Event}
 use Rattle.lg_detector.specs.Meaning.Step.{reply_after}
 use Rattle.lg_detector.specs.Support.Step.{state_after}
 use Rattle.lg_history.specs.Meaning.History.{Entry, HistoryValue, entry, events, completed}
 use Rattle.lg_view.specs.Meaning.Views.{FeedValue}
 use Rattle.lg_agent.specs.Meaning.Values.{own_name, own_limit}
+use Rattle.lg_history.specs.Meaning.Rest.{of_seat}
+use Rattle.lg_agent.proofs.SeatCounts.{one_more}
 use Rattle.lg_agent.proofs.LedgerLaws.{goes_on, GoesOn, past_stays}
 use Rattle.lg_agent.proofs.kept.Kept.apply_into.Goals as goal
 
@@ -51,4 +54,6 @@ invariant_of-self-2 g c =
       c.self.invariant.12,
       c.self.invariant.13,
       c.self.invariant.14,
+      length-set k.made c.args.seat (of_seat k.made c.args.seat + 1) ∙ c.self.invariant.15,
+      rw is (one_more k.made k.cut h x (let long = c.self.invariant.15 in let most = c.self.invariant.12 in omega (arith, long, most)) c.self.invariant.16),
     )

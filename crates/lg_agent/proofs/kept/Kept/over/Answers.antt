@@ -1,4 +1,4 @@
-use Rattle.std.proofs.Common.{◌≡◌, ◌∷◌, ◌++◌, [], List, ap, sym, ◌∙◌, refl}
+use Rattle.std.proofs.Common.{◌≡◌, ◌∷◌, ◌++◌, [], List, ap, sym, ◌∙◌, refl, arith}
 use Rattle.lg_detector.specs.declared.event.Event.{Event}
 use Rattle.lg_detector.specs.declared.event.Event.TheVariants.{Open}
 use Rattle.lg_detector.specs.Meaning.Step.{reply_after}
@@ -7,7 +7,7 @@ use Rattle.lg_history.specs.Meaning.History.{Entry, HistoryValue, entry, events}
 use Rattle.lg_history.proofs.Rests.{rest_whole}
 use Rattle.lg_view.specs.Meaning.Views.{FeedValue}
 use Rattle.lg_agent.proofs.LedgerLaws.{begins, Begins}
-use Rattle.lg_agent.proofs.SeatCounts.{nobody, none_yet}
+use Rattle.lg_agent.proofs.SeatCounts.{nobody, none_yet, one_more}
 use Rattle.lg_agent.proofs.kept.Kept.over.Goals as goal
 
 pub invariant_of-result : goal.invariant_of-result
@@ -33,6 +33,8 @@ invariant_of-result g c =
       c.requires.places.1,
       c.requires.places.2,
       refl,
+      refl,
+      rw is (one_more none_yet none_yet [] x (omega arith) (λ p. omega arith)),
     )
 
 pub returns-clause-none_cut : goal.returns-clause-none_cut
