@@ -141,6 +141,27 @@ fn first_unmet<A: AgentName, S: Site, R: Wait>(
     None
 }
 
+/// What a site that nobody may see from elsewhere shows, of a node that doesn't record.
+fn basis_of<'n, R>(
+    rt: &'n R,
+    alloc: Global,
+    clock: &'n SetClock,
+    counters: &'n Counters,
+    stop: &'n AtomicBool,
+    config: ShownConfig,
+) -> SiteBasis<'n, SetClock, R> {
+    SiteBasis {
+        rt,
+        alloc,
+        clock,
+        counters,
+        config,
+        stop,
+        leave: true,
+        folder: None,
+    }
+}
+
 /// Does the steps with two passes of an agent: one that hears, and one that the site looks with. There is no outcome if
 /// memory was refused.
 fn play_with<A: AgentName, R: Wait + Files + AllocGlobal + Clone + Drop>(
@@ -166,16 +187,7 @@ fn play_with<A: AgentName, R: Wait + Files + AllocGlobal + Clone + Drop>(
         seeds: ArrayVec::new(),
     };
     let stop = AtomicBool::new(false);
-    let basis = SiteBasis {
-        rt,
-        alloc,
-        clock: &clock,
-        counters: &counters,
-        config,
-        stop: &stop,
-        leave: true,
-        folder: None,
-    };
+    let basis = basis_of(rt, alloc, &clock, &counters, &stop, config);
     let mut site = NodeSite::new(passes.pop()?, basis).ok()?;
     Some(first_unmet(rt, alloc, &clock, &mut hearer, &mut site, steps))
 }

@@ -17,6 +17,7 @@ use lg_testing::{Room, at, letter, local};
 use lg_timing::{Config, MAX_MOMENT};
 use lg_view::{Published, Update};
 use std::alloc::Global;
+use std::fs::Files;
 use std::rt;
 use std::sync::Wait;
 use std::sync::atomic::AtomicBool;
@@ -290,7 +291,9 @@ fn run_threads<'p, 'm, A, R>(
 ) -> Ran<'p, 'm, R, A>
 where
     A: AgentName + Send + Sync,
-    R: Threads + Wait + rt::Clock + Sync,
+    R: Threads + Wait + Files + rt::Clock + AllocGlobal + Clone + Sync + Drop,
+    R::File: Send,
+    R::Dir: Send,
 {
     let name = letter(b'b');
     let config = Config::new(name, local(7102));
@@ -346,7 +349,9 @@ pub fn run_both<A, R>(
 ) -> Option<(BothSeen, [Spent<A>; 4])>
 where
     A: AgentName + Send + Sync,
-    R: Threads + Wait + rt::Clock + Sync,
+    R: Threads + Wait + Files + rt::Clock + AllocGlobal + Clone + Sync + Drop,
+    R::File: Send,
+    R::Dir: Send,
 {
     let signs = Signs::new(true);
     let (looked, (received, ticked), text) = run_threads(rt, alloc, &signs, taken(passes)?, follow);

@@ -7,6 +7,7 @@ use lg_testing::{at, letter, local};
 use lg_timing::{Config, Seed};
 use lg_view::UnnamedBook;
 use std::alloc::Global;
+use std::fs::Files;
 use std::marker::Brand;
 use std::rt;
 use std::sync::Wait;
@@ -63,7 +64,9 @@ fn run<A, R>(
 ) -> Option<Shown>
 where
     A: AgentName + Send + Sync,
-    R: Threads + Wait + rt::Clock + Sync,
+    R: Threads + Wait + Files + rt::Clock + AllocGlobal + Clone + Sync + Drop,
+    R::File: Send,
+    R::Dir: Send,
 {
     let mut passes = agent.passes(alloc).ok()?;
     match play {
@@ -117,7 +120,9 @@ fn play_case<A, R>(
 ) -> Result<Outcome, Refusal>
 where
     A: AgentName + Send + Sync,
-    R: Threads + Wait + rt::Clock + Sync,
+    R: Threads + Wait + Files + rt::Clock + AllocGlobal + Clone + Sync + Drop,
+    R::File: Send,
+    R::Dir: Send,
     requires book { book.seen.book ≡ A.book }
     requires places { (places ≡ A.places) × (0 < places) × (places ≤ 32) }
 {
@@ -148,7 +153,9 @@ where
 /// What comes of a case.
 fn told<R>(rt: &R, alloc: Global, case: &Case) -> Result<Outcome, Refusal>
 where
-    R: Threads + Wait + rt::Clock + Sync,
+    R: Threads + Wait + Files + rt::Clock + AllocGlobal + Clone + Sync + Drop,
+    R::File: Send,
+    R::Dir: Send,
 {
     let places = match case.play {
         Play::Alone(_) => 1,
@@ -160,7 +167,9 @@ where
 /// The same. If memory for the agent was refused, it is tried once more.
 pub fn told_at_last<R>(rt: &R, alloc: Global, case: &Case) -> Result<Outcome, Refusal>
 where
-    R: Threads + Wait + rt::Clock + Sync,
+    R: Threads + Wait + Files + rt::Clock + AllocGlobal + Clone + Sync + Drop,
+    R::File: Send,
+    R::Dir: Send,
 {
     match told(rt, alloc, case) {
         Err(Refusal::NoMemory) => told(rt, alloc, case),

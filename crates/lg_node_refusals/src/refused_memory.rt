@@ -6,6 +6,7 @@ use crate::playing::{Case, Outcome, Play, Shown, told_at_last};
 use lg_agent::Refusal;
 use lg_node::{LoopEnd, Watched, Why};
 use std::alloc::Global;
+use std::fs::Files;
 use std::rt;
 use std::sync::Wait;
 use std::thread::Threads;
@@ -108,7 +109,9 @@ fn a_leave(rt: HostRuntime) {
 /// What is seen of both loops of a node that knows c, and how many entries there are in the end.
 fn both_loops<R>(rt: &R, alloc: Global, follow: bool) -> Option<(BothSeen, u64)>
 where
-    R: Threads + Wait + rt::Clock + Sync,
+    R: Threads + Wait + Files + rt::Clock + AllocGlobal + Clone + Sync + Drop,
+    R::File: Send,
+    R::Dir: Send,
 {
     let case = Case {
         limit: 20_000,

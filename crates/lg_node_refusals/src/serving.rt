@@ -5,6 +5,7 @@ use lg_node::{NodeStart, ResolvedSeeds, Served, Settings, Unrecorded, run_node};
 use lg_testing::{Room, at, letter, local};
 use lg_timing::Config;
 use std::alloc::Global;
+use std::fs::Files;
 use std::io;
 use std::net::{Ipv4Addr, Net, UdpSocket};
 use std::random::RandomSource;
@@ -30,7 +31,9 @@ fn free_port<R: Net>(rt: &R) -> io::Result<u16> {
 /// Runs b at a port, and tells its faults on a stream. Gives the end of its status server, if the node had loops.
 fn run_at<R>(rt: &R, alloc: Global, port: u16, faults: &mut Room) -> Option<Served>
 where
-    R: Threads + Wait + Net + Clock + RandomSource + Sync,
+    R: Threads + Wait + Net + Files + Clock + RandomSource + AllocGlobal + Clone + Sync + Drop,
+    R::File: Send,
+    R::Dir: Send,
 {
     let config = Config::new(letter(b'b'), local(port));
     config.check().ok()?;

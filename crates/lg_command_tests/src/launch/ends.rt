@@ -83,6 +83,8 @@ where
         + FaultStreams
         + RecordFolders,
     R: Net<Listener = TcpListener, Stream = TcpStream> + Copy + Send + Sync + 'static,
+    R::File: Send,
+    R::Dir: Send,
 {
     let (mut writer, mut faults) = (Room::failing(fails_at), Room::failing(0));
     let stop = AtomicBool::new(false);
@@ -120,6 +122,8 @@ where
         + FaultStreams
         + RecordFolders,
     R: Net<Listener = TcpListener, Stream = TcpStream> + Copy + Send + Sync + 'static,
+    R::File: Send,
+    R::Dir: Send,
 {
     let (source, fails_at, status, written, told) = row;
     let port = free_port(rt)?;

@@ -11,6 +11,7 @@ use lg_testing::{Room, at};
 use lg_text::{RunFault, WriteFault};
 use lg_timing::Config;
 use std::alloc::Global;
+use std::fs::Files;
 use std::io::ErrorKind;
 use std::net::Net;
 use std::random::RandomSource;
@@ -190,7 +191,9 @@ const TRIES: usize = 10;
 /// A run of a node, at a port that the system gives it, that ends at once and tells nothing.
 fn run_at_once<R>(rt: &R, alloc: Global) -> Result<NodeEnd, NodeFault>
 where
-    R: Wait + Threads + Net + rt::Clock + RandomSource + Sync,
+    R: Wait + Threads + Net + Files + rt::Clock + RandomSource + AllocGlobal + Clone + Sync + Drop,
+    R::File: Send,
+    R::Dir: Send,
 {
     let settings = Settings {
         bind: config(0).addr,
@@ -233,7 +236,9 @@ where
 /// A node that ran. A run fails if memory is refused, and while another program has the port for a moment.
 fn ran<R>(rt: &R, alloc: Global) -> Result<NodeEnd, NodeFault>
 where
-    R: Wait + Threads + Net + rt::Clock + RandomSource + Sync,
+    R: Wait + Threads + Net + Files + rt::Clock + RandomSource + AllocGlobal + Clone + Sync + Drop,
+    R::File: Send,
+    R::Dir: Send,
 {
     let mut ran = run_at_once(rt, alloc);
     for _ in 0..TRIES {

@@ -111,6 +111,8 @@ where
         + FaultStreams
         + RecordFolders,
     R: Net<Listener = TcpListener, Stream = TcpStream> + Copy + Send + Sync + 'static,
+    R::File: Send,
+    R::Dir: Send,
 {
     let (source, line, until, follow, told) = row;
     let port = free_port(rt)?;

@@ -9,6 +9,7 @@ use lg_rules::Addr;
 use lg_testing::{Room, at, letter, local};
 use lg_timing::{Config, Seed};
 use std::alloc::Global;
+use std::fs::Files;
 use std::io;
 use std::net::{Ipv4Addr, Net, UdpSocket};
 use std::random::RandomSource;
@@ -114,7 +115,9 @@ fn asked(closed: &Result<Closed, CloseFault>) -> Option<(Addr, Addr)> {
 /// How the ticking loop of a node ended, and whom the node asked, in order.
 fn ran<R>(rt: &R, alloc: Global, config: &Config) -> Option<(LoopEnd, Option<(Addr, Addr)>)>
 where
-    R: Threads + Wait + Net + Clock + RandomSource + Sync,
+    R: Threads + Wait + Net + Files + Clock + RandomSource + AllocGlobal + Clone + Sync + Drop,
+    R::File: Send,
+    R::Dir: Send,
 {
     config.check().ok()?;
     let mut asks = ArrayVec::new();
@@ -193,7 +196,9 @@ impl Group {
     /// Whether b asks both seeds in order, if something can be sent to the first and to the second or not.
     fn is_asked<R>(&self, rt: &R, alloc: Global, first: bool, second: bool, unsent: u64) -> bool
     where
-        R: Threads + Wait + Net + Clock + RandomSource + Sync,
+        R: Threads + Wait + Net + Files + Clock + RandomSource + AllocGlobal + Clone + Sync + Drop,
+        R::File: Send,
+        R::Dir: Send,
     {
         let (one, two) = (self.one.port_if(first), self.two.port_if(second));
         let seen = ran(rt, alloc, &config(self.own, one, two));

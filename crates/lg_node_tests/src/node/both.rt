@@ -19,6 +19,7 @@ use lg_testing::{Room, at, letter, local};
 use lg_timing::{Config, MAX_MOMENT};
 use lg_view::{Published, Update};
 use std::alloc::Global;
+use std::fs::Files;
 use std::rt;
 use std::sync::Wait;
 use std::sync::atomic::AtomicBool;
@@ -197,7 +198,9 @@ fn run_threads<'p, 'm, A, R>(
 ) -> Ran<'p, 'm, R, A>
 where
     A: AgentName + Send + Sync,
-    R: Threads + Wait + rt::Clock + Sync,
+    R: Threads + Wait + Files + rt::Clock + AllocGlobal + Clone + Sync + Drop,
+    R::File: Send,
+    R::Dir: Send,
 {
     let name = letter(b'b');
     let config = Config::new(name, local(7102));
@@ -259,7 +262,9 @@ pub fn run_both<A, R>(
 ) -> Left<A, Shown>
 where
     A: AgentName + Send + Sync,
-    R: Threads + Wait + rt::Clock + Sync,
+    R: Threads + Wait + Files + rt::Clock + AllocGlobal + Clone + Sync + Drop,
+    R::File: Send,
+    R::Dir: Send,
 {
     let Some(passes) = taken(passes) else {
         return Left::nothing(spents);

@@ -15,6 +15,7 @@ use lg_node::{
 use lg_rules::{Addr, Claim};
 use lg_testing::{at, failed, local, ping};
 use std::alloc::Global;
+use std::fs::Files;
 use std::rt;
 use std::sync::Wait;
 use std::sync::atomic::AtomicBool;
@@ -270,7 +271,9 @@ fn found_in(outcome: &Outcome<Shown>) -> Option<&Found> {
 /// Whether a loop runs until its time is over, and hands over these Pulls and no others.
 pub(super) fn asks<R>(rt: &R, alloc: Global, search: Search, pulls: &[Pulled]) -> bool
 where
-    R: Threads + Wait + rt::Clock + Sync,
+    R: Threads + Wait + Files + rt::Clock + AllocGlobal + Clone + Sync + Drop,
+    R::File: Send,
+    R::Dir: Send,
 {
     let Ok(outcome) = told(rt, alloc, search.case()) else {
         return false;
@@ -453,7 +456,9 @@ const ENDS: &[(u64, bool, u64, Why, u64, u64)] = &[
 /// Whether a loop ends so, at this moment.
 fn ends<R>(rt: &R, alloc: Global, search: Search, end: LoopEnd, over: u64) -> bool
 where
-    R: Threads + Wait + rt::Clock + Sync,
+    R: Threads + Wait + Files + rt::Clock + AllocGlobal + Clone + Sync + Drop,
+    R::File: Send,
+    R::Dir: Send,
 {
     let Ok(outcome) = told(rt, alloc, search.case()) else {
         return false;

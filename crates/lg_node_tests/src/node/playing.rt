@@ -11,6 +11,7 @@ use lg_agent::{Agent, AgentName, Refusal, Spent};
 use lg_agent_testing::{Case, Left, Outcome, room};
 use lg_view::UnnamedBook;
 use std::alloc::Global;
+use std::fs::Files;
 use std::marker::Brand;
 use std::rt;
 use std::sync::Wait;
@@ -54,7 +55,9 @@ fn run<A, R>(
 ) -> Left<A, Shown>
 where
     A: AgentName + Send + Sync,
-    R: Threads + Wait + rt::Clock + Sync,
+    R: Threads + Wait + Files + rt::Clock + AllocGlobal + Clone + Sync + Drop,
+    R::File: Send,
+    R::Dir: Send,
 {
     let Ok(passes) = agent.passes(alloc) else {
         return Left::nothing(spents);
@@ -79,7 +82,9 @@ fn play_case<A, R>(
 ) -> Result<Outcome<Shown>, Refusal>
 where
     A: AgentName + Send + Sync,
-    R: Threads + Wait + rt::Clock + Sync,
+    R: Threads + Wait + Files + rt::Clock + AllocGlobal + Clone + Sync + Drop,
+    R::File: Send,
+    R::Dir: Send,
     requires book { book.seen.book ≡ A.book }
     requires places { (places ≡ A.places) × (0 < places) × (places ≤ 32) }
 {
@@ -91,7 +96,9 @@ where
 /// What a case tells. The error is that the opening was refused. A number of places that no agent has gives `NoPlace`.
 pub fn told<R>(rt: &R, alloc: Global, case: Case<Play>) -> Result<Outcome<Shown>, Refusal>
 where
-    R: Threads + Wait + rt::Clock + Sync,
+    R: Threads + Wait + Files + rt::Clock + AllocGlobal + Clone + Sync + Drop,
+    R::File: Send,
+    R::Dir: Send,
 {
     let places = case.places;
     if places == 0 || places > 32 {

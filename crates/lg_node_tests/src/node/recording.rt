@@ -67,6 +67,8 @@ fn settings(config: &Config) -> Settings {
 fn recorded<R>(rt: &R, alloc: Global, config: &Config, path: String) -> Option<NodeEnd>
 where
     R: Threads + Wait + Net + Clock + RandomSource + Files + AllocGlobal + Copy + Send + Sync,
+    R::File: Send,
+    R::Dir: Send,
 {
     config.check().ok()?;
     let settings = settings(config);

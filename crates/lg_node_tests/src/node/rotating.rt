@@ -11,6 +11,7 @@ use lg_node::{Ended, Link, LinkFault, LoopEnd, MAX_DATAGRAM, Why};
 use lg_rules::Addr;
 use lg_testing::local;
 use std::alloc::Global;
+use std::fs::Files;
 use std::rt;
 use std::sync::Wait;
 use std::sync::atomic::AtomicBool;
@@ -183,7 +184,9 @@ pub fn run_stream<A: AgentName, R: Wait>(
 /// What a node with this limit on its history did, and how its agent ended.
 fn played<R>(rt: &R, alloc: Global, limit: u64) -> Option<(StreamSeen, Ending)>
 where
-    R: Threads + Wait + rt::Clock + Sync,
+    R: Threads + Wait + Files + rt::Clock + AllocGlobal + Clone + Sync + Drop,
+    R::File: Send,
+    R::Dir: Send,
 {
     let mut case = Case::new(2, Play::Stream);
     case.limit = limit;
