@@ -242,8 +242,8 @@ class Page:
             self.put_wide(head, rows)
 
     def put_narrow(self, head, rows):
-        """Shows a table as one. It isn't kept on one page: man shows a page as one long one, whose length grows, and loses
-        a table that has to be kept and stands just where it grows."""
+        """Shows a table as one. It isn't kept on one page: man shows all as one long page, whose length grows, and
+        warns of a table that has to be kept and stands just where it grows."""
         count = len(head)
         self.paragraph()
         self.add(".TS", "nokeep;", " ".join(["lb"] * count), f"{' '.join(['l'] * count)}.")
