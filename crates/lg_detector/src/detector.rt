@@ -156,15 +156,15 @@ impl Detector {
         into.parts.events = parts.events;
         into.parts.moment = parts.moment;
         into.parts.score = parts.score;
-        into.parts.timers = parts.timers.copy();
-        into.parts.order = parts.order.copy();
+        parts.timers.copy_into(&mut into.parts.timers);
+        parts.order.copy_into(&mut into.parts.order);
         into.parts.number = parts.number;
         into.parts.round = match &parts.round {
             Some(round) => Some(round.copy()),
             None => None,
         };
         into.parts.gossip = parts.gossip;
-        into.parts.relays = parts.relays.copy();
+        parts.relays.copy_into(&mut into.parts.relays);
         parts.membership.copy_into(&mut into.parts.membership);
     }
 

@@ -73,18 +73,16 @@ impl Queue {
         }
     }
 
-    /// Copies the queue. Allocates no memory.
-    pub fn copy(&self) -> Queue
-        ensures { result ≡ self.now }
+    /// Overwrites another queue by this one, in place. Allocates no memory.
+    pub fn copy_into(&self, into: &mut Queue)
+        ensures { into.new ≡ self.now }
     {
-        Queue {
-            lambda: self.lambda,
-            version: self.version,
-            fewest: self.fewest,
-            used: self.used,
-            sent: self.sent,
-            rows: self.rows.copy(),
-        }
+        into.lambda = self.lambda;
+        into.version = self.version;
+        into.fewest = self.fewest;
+        into.used = self.used;
+        into.sent.copy_from_slice(&self.sent);
+        self.rows.copy_into(&mut into.rows);
     }
 
     /// The claims with their sends, in the order of names.

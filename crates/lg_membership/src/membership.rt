@@ -188,9 +188,9 @@ impl Membership {
             None => None,
         };
         into.own = self.own;
-        into.members = self.members.copy();
+        self.members.copy_into(&mut into.members);
         self.suspicions.copy_into(&mut into.suspicions);
-        into.queue = self.queue.copy();
+        self.queue.copy_into(&mut into.queue);
     }
 
     /// Opens the member with a configuration that passed its check. Forgets all that was known. In version 3 this

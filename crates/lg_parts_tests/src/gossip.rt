@@ -343,7 +343,8 @@ fn sends_no_more(rt: HostRuntime) {
             let mut queue = sent_out(*live, *sends, buddy);
             let has_ended = has_no_news(&queue, *live);
             put(&mut queue, b"d");
-            let mut copy = queue.copy();
+            let mut copy = Queue::new(1, Version::One);
+            queue.copy_into(&mut copy);
             let met = has_ended
                 && takes_d_alone(&mut queue, *live, *sends, buddy, letters)
                 && takes_d_alone(&mut copy, *live, *sends, buddy, letters);

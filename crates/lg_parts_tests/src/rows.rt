@@ -47,7 +47,8 @@ fn play_list(list: &mut Vec<u16>, step: Step) -> Result<(), AllocError> {
 
 /// Whether a row has these numbers, by each of its readings and of those of its copy.
 fn has<const N: usize>(rows: &Rows<u16, N>, numbers: &[u16]) -> bool {
-    let copy = rows.copy();
+    let mut copy = Rows::new();
+    rows.copy_into(&mut copy);
     let mut same = rows.len() == numbers.len()
         && rows.is_empty() == numbers.is_empty()
         && rows.is_full() == (numbers.len() == N)

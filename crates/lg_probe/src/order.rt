@@ -58,17 +58,14 @@ impl Order {
         }
     }
 
-    /// Copies the order. Allocates no memory.
-    pub fn copy(&self) -> Order
-        ensures { result ≡ self.now }
+    /// Overwrites another order by this one, in place. Copies no more names than there are. Allocates no memory.
+    pub fn copy_into(&self, into: &mut Order)
+        ensures { into.new ≡ self.now }
     {
-        let mut known = ArrayVec::new();
-        known.try_extend_from_slice(&self.known).unwrap();
-        Order {
-            known,
-            joined: self.joined,
-            chosen: self.chosen,
-        }
+        into.known.clear();
+        into.known.try_extend_from_slice(&self.known).unwrap();
+        into.joined = self.joined;
+        into.chosen = self.chosen;
     }
 
     /// The names that have joined and not left, at most 255, in the order of names (SWIM, section 4.3). This goes over

@@ -107,16 +107,13 @@ impl Relays {
         }
     }
 
-    /// Copies the relays. Allocates no memory.
-    pub fn copy(&self) -> Relays
-        ensures { result ≡ self.now }
+    /// Overwrites other relays by these, in place. Copies no more relays than there are. Allocates no memory.
+    pub fn copy_into(&self, into: &mut Relays)
+        ensures { into.new ≡ self.now }
     {
-        let mut open = ArrayVec::new();
-        open.try_extend_from_slice(&self.open).unwrap();
-        Relays {
-            open,
-            greatest: self.greatest,
-        }
+        into.open.clear();
+        into.open.try_extend_from_slice(&self.open).unwrap();
+        into.greatest = self.greatest;
     }
 
     /// How many relays are open, at most 64.

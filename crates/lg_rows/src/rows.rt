@@ -140,17 +140,14 @@ impl<T: Drop, const N: usize> Rows<T, N> {
 }
 
 impl<T: Copy + Default, const N: usize> Rows<T, N> {
-    /// Copies the row. Allocates no memory.
-    pub fn copy(&self) -> Self
-        ensures { result.items ≡ self.now.items }
+    /// Overwrites another row by this one, in place. Copies the places that were ever used. Allocates no memory.
+    pub fn copy_into(&self, into: &mut Self)
+        ensures { into.new.items ≡ self.now.items }
     {
-        let mut items = ArrayVec::new();
-        items.try_extend_from_slice(&self.items).unwrap();
-        Rows {
-            count: self.count,
-            places: self.places,
-            items,
-        }
+        into.count = self.count;
+        into.places.copy_from_slice(&self.places);
+        into.items.clear();
+        into.items.try_extend_from_slice(&self.items).unwrap();
     }
 }
 

@@ -91,20 +91,17 @@ impl Model for Members {
 }
 
 impl Members {
-    /// Copies the table. Allocates no memory.
-    pub fn copy(&self) -> Members
-        ensures { result ≡ self.now }
+    /// Overwrites another table by this one, in place. Allocates no memory.
+    pub fn copy_into(&self, into: &mut Members)
+        ensures { into.new ≡ self.now }
     {
-        let mut slots = ArrayVec::new();
-        slots.try_extend_from_slice(&self.slots).unwrap();
-        Members {
-            own: self.own,
-            indexes: self.indexes,
-            forgets: self.forgets,
-            records: self.records.copy(),
-            slots,
-            live: self.live,
-        }
+        into.own = self.own;
+        into.indexes.copy_from_slice(&self.indexes);
+        into.forgets = self.forgets;
+        self.records.copy_into(&mut into.records);
+        into.slots.clear();
+        into.slots.try_extend_from_slice(&self.slots).unwrap();
+        into.live = self.live;
     }
 
     /// The table of a member with this name, which knows no other member. `forgets` says whether it forgets members

@@ -45,17 +45,13 @@ impl Heap {
         }
     }
 
-    /// The same slots in the same order.
-    pub(crate) fn copy(&self) -> Heap
-        ensures { result ≡ self.now }
+    /// Overwrites another heap by this one, in place: the same slots in the same order.
+    pub(crate) fn copy_into(&self, into: &mut Heap)
+        ensures { into.new ≡ self.now }
     {
-        let slots = self.slots;
-        let places = self.places;
-        Heap {
-            slots,
-            places,
-            count: self.count,
-        }
+        into.slots.copy_from_slice(&self.slots);
+        into.places.copy_from_slice(&self.places);
+        into.count = self.count;
     }
 
     /// No slot is in use any more.

@@ -71,19 +71,14 @@ impl IndexedHeap {
         }
     }
 
-    /// The same timers.
-    pub(crate) fn copy(&self) -> IndexedHeap
-        ensures { result ≡ self.now }
+    /// Overwrites others by these timers, in place.
+    pub(crate) fn copy_into(&self, into: &mut IndexedHeap)
+        ensures { into.new ≡ self.now }
     {
-        let mut timers = [Timer::default(); MAX_TIMERS];
-        timers.copy_from_slice(&self.timers);
-        let mut by_id = ArrayVec::new();
-        by_id.try_extend_from_slice(&self.by_id).unwrap();
-        IndexedHeap {
-            timers,
-            heap: self.heap.copy(),
-            by_id,
-        }
+        into.timers.copy_from_slice(&self.timers);
+        self.heap.copy_into(&mut into.heap);
+        into.by_id.clear();
+        into.by_id.try_extend_from_slice(&self.by_id).unwrap();
     }
 
     /// Sets a timer: replaces the one with its id, or adds it. If none with its id is set, fewer than [`MAX_TIMERS`]

@@ -71,15 +71,13 @@ impl Timers {
         }
     }
 
-    /// Copies the timers. Allocates no memory.
-    pub fn copy(&self) -> Timers
-        ensures { result ≡ self.now }
+    /// Overwrites other timers by these, in place. Allocates no memory.
+    pub fn copy_into(&self, into: &mut Timers)
+        ensures { into.new ≡ self.now }
     {
-        Timers {
-            singles: self.singles,
-            first_single: self.first_single,
-            heap: self.heap.copy(),
-        }
+        into.singles = self.singles;
+        into.first_single = self.first_single;
+        self.heap.copy_into(&mut into.heap);
     }
 
     /// Adds a timer. Fewer than [`MAX_TIMERS`] have to be set, and none with its id.
