@@ -11,4 +11,4 @@ mod standstill;
 
 pub use laws::standstills_add_up;
 pub use node::NodeRecord;
-pub use source::{EntrySource, Subject};
+pub use source::{EntryParts, EntrySource, Subject};

@@ -10,7 +10,7 @@ ghost use Rattle.lg_batches.specs.Meaning.Sources.{head_of_cut, known_before};
 use crate::standstill::Standstill;
 use lg_agent::{AgentName, CutOff, Pass};
 use lg_clock::Clock;
-use lg_detector::Detector;
+use lg_detector::{Detector, Reply};
 use lg_heads::{Before, Head, put_head};
 use lg_recorder::{Batch, BatchSource};
 use lg_recording::{EntryBuffers, MAX_SEAT, put_entry};
@@ -45,6 +45,14 @@ pub struct EntrySource<'n, R, C> {
     wall_ms: u64,
     /// For how long the clock stood still by then.
     standstill: Standstill,
+}
+
+/// What an entry is written with: its reply, which has room for any, and the buffers of its bytes. They are kept from
+/// one entry to the next, since a reply takes some 12 KB.
+#[derive(Drop)]
+pub struct EntryParts {
+    buffers: EntryBuffers,
+    reply: Reply,
 }
 
 /// The wall time in milliseconds since the beginning of 1970 in UTC, or 0 if it can't be read. No contract says what a
@@ -129,6 +137,8 @@ impl<'n, R: rt::Clock, C: Clock> Batch for EntrySource<'n, R, C> {
       program = s.subject.program.now;
     }) s.wall_ms s.moment s.standstill.since_ms s.cut };
 
+    type Buffers = EntryParts;
+
     fn first(&self) -> u64 {
         self.cut.base()
     }
@@ -144,7 +154,19 @@ impl<'n, R: rt::Clock, C: Clock> Batch for EntrySource<'n, R, C> {
         put_head(&head, &mut body, text)
     }
 
-    fn put_entry(&self, index: usize, text: &mut Vec<u8>) -> Result<(), AllocError> {
+    fn buffers(&self) -> EntryParts {
+        EntryParts {
+            buffers: EntryBuffers::new(self.alloc),
+            reply: Reply::default(),
+        }
+    }
+
+    fn put_entry(
+        &self,
+        index: usize,
+        parts: &mut EntryParts,
+        text: &mut Vec<u8>,
+    ) -> Result<(), AllocError> {
         let entry = &self.cut.entries()[index];
         let seat = entry.seat().min(MAX_SEAT);
         let stood_still_ms = if index == 0 {
@@ -152,13 +174,13 @@ impl<'n, R: rt::Clock, C: Clock> Batch for EntrySource<'n, R, C> {
         } else {
             0
         };
-        let mut buffers = EntryBuffers::new(self.alloc);
+        entry.reply_into(&mut parts.reply);
         put_entry(
             seat,
             &entry.event(),
-            &entry.reply(),
+            &parts.reply,
             stood_still_ms,
-            &mut buffers,
+            &mut parts.buffers,
             text,
         )
     }

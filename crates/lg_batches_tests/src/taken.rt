@@ -83,8 +83,9 @@ fn before_told(before: &Option<Before>) -> Option<(Standing, u64)> {
 fn file_of<B: Batch>(alloc: Global, source: &B) -> Option<Vec<u8>> {
     let mut text = Vec::new(alloc);
     source.put_head(&mut text).ok()?;
+    let mut buffers = source.buffers();
     for index in 0..source.len() {
-        source.put_entry(index, &mut text).ok()?;
+        source.put_entry(index, &mut buffers, &mut text).ok()?;
     }
     Some(text)
 }

@@ -54,7 +54,16 @@ impl Entry {
     pub fn reply(&self) -> Reply
         ensures { result ≡ self.now.reply }
     {
-        self.reply.reply()
+        let mut reply = Reply::default();
+        self.reply_into(&mut reply);
+        reply
+    }
+
+    /// Overwrites a reply by this one, in place. It moves only the parts that the reply has. Allocates nothing.
+    pub fn reply_into(&self, reply: &mut Reply)
+        ensures { reply.new ≡ self.now.reply }
+    {
+        self.reply.reply_into(reply);
     }
 
     /// Whom the start of a round chose, by the reply: the target of the Ping that it sent (SWIM, section 4.3). None

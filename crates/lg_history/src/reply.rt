@@ -8,7 +8,6 @@ ghost use Rattle.lg_detector.specs.Meaning.Choice.{choice_of_reply, first_body};
 ghost use Rattle.lg_history.specs.Support.Stored.{reply_in, told_but_forgotten};
 
 use crate::packet::StoredOutgoing;
-use arrayvec::ArrayVec;
 use lg_detector::{Answer, MAX_SENDS, NoMemory, Outgoing, Reply, Sends, Timer, choice_by};
 use lg_packet::Body;
 use lg_rules::{Name, Record};
@@ -106,16 +105,15 @@ fn store_sends(alloc: Global, sends: &[Outgoing]) -> Result<Vec<StoredOutgoing>,
     Ok(stored)
 }
 
-/// The packets to be sent.
-fn sends_in(stored: &[StoredOutgoing]) -> Sends
+/// Overwrites packets by those to be sent.
+fn sends_into(stored: &[StoredOutgoing], sends: &mut Sends)
     requires { length stored.now ≤ MAX_SENDS }
-    ensures { result.items ≡ stored.now }
+    ensures { sends.new.items ≡ stored.now }
 {
-    let mut sends = Sends::new();
+    sends.clear();
     for outgoing in stored {
         sends.push(outgoing.outgoing());
     }
-    sends
 }
 
 impl ExactReply {
@@ -144,22 +142,19 @@ impl ExactReply {
         choice_by(timer_in(&self.fired), first_body(self.sends.as_slice()))
     }
 
-    /// The reply.
-    fn reply(&self) -> Reply
-        ensures { result ≡ self.now }
+    /// Overwrites a reply by this one, in place: a reply is large, and has few parts.
+    fn reply_into(&self, reply: &mut Reply)
+        ensures { reply.new ≡ self.now }
     {
-        let mut changed = ArrayVec::new();
-        let copied = changed.try_extend_from_slice(self.changed.as_slice());
+        reply.fired = timer_in(&self.fired);
+        sends_into(self.sends.as_slice(), &mut reply.sends);
+        reply.changed.clear();
+        let copied = reply.changed.try_extend_from_slice(self.changed.as_slice());
         prove!(copied.is_ok());
-        Reply {
-            fired: timer_in(&self.fired),
-            sends: sends_in(self.sends.as_slice()),
-            changed,
-            forgotten: ArrayVec::new(),
-            answer: answer_in(&self.answer),
-            ousted: self.ousted,
-            next: self.next,
-        }
+        reply.forgotten.clear();
+        reply.answer = answer_in(&self.answer);
+        reply.ousted = self.ousted;
+        reply.next = self.next;
     }
 }
 
@@ -183,16 +178,16 @@ impl Model for ForgettingReply {
 }
 
 impl ForgettingReply {
-    /// The reply.
-    fn reply(&self) -> Reply
-        ensures { result ≡ self.now }
+    /// Overwrites a reply by this one, in place.
+    fn reply_into(&self, reply: &mut Reply)
+        ensures { reply.new ≡ self.now }
     {
-        let mut reply = self.exact.reply();
-        let mut forgotten = ArrayVec::new();
-        let copied = forgotten.try_extend_from_slice(self.forgotten.as_slice());
+        self.exact.reply_into(reply);
+        reply.forgotten.clear();
+        let copied = reply
+            .forgotten
+            .try_extend_from_slice(self.forgotten.as_slice());
         prove!(copied.is_ok());
-        reply.forgotten = forgotten;
-        reply
     }
 }
 
@@ -276,14 +271,14 @@ impl StoredReply {
         }
     }
 
-    /// The reply.
-    pub(crate) fn reply(&self) -> Reply
-        ensures { result ≡ self.now }
+    /// Overwrites a reply by this one.
+    pub(crate) fn reply_into(&self, reply: &mut Reply)
+        ensures { reply.new ≡ self.now }
     {
         match &self.form {
-            Form::Exact(exact) => exact.reply(),
-            Form::Forgetting(forgetting) => forgetting.reply(),
-            Form::Whole(whole) => whole.copy(),
+            Form::Exact(exact) => exact.reply_into(reply),
+            Form::Forgetting(forgetting) => forgetting.reply_into(reply),
+            Form::Whole(whole) => *reply = whole.copy(),
         }
     }
 }

@@ -101,8 +101,9 @@ pub(crate) fn append_each<F: RecordFolder, B: Batch>(
         (F.past folder.new) progress.new (length (B.batch batch.now).chunks) }
 {
     text.clear();
+    let mut buffers = batch.buffers();
     for index in 0..batch.len() {
-        put_entry_of(batch, index, text)?;
+        put_entry_of(batch, index, &mut buffers, text)?;
         progress.append_piece(text, folder, index + 1)?;
     }
     progress.append(text, folder, batch.len())?;

@@ -12,8 +12,14 @@ pub trait Batch {
     ghost use Rattle.std.specs.Prelude.{◌≡◌, ◌<◌, ◌++◌, [], length, slice_index_or, OnOk};
     ghost use Rattle.lg_recorder.specs.Meaning.Batches.{BatchValue};
 
+    /// What entries are written with, besides the text. It is kept from one entry to the next.
+    type Buffers: Drop;
+
     // The number of its first entry, the bytes of the head of a file that begins with it, and those of each entry.
     ghost batch: { Self → BatchValue };
+
+    /// Buffers for its entries. What is in them doesn't count.
+    fn buffers(&self) -> Self::Buffers;
 
     /// The number of its first entry: how many entries the node had made before it.
     fn first(&self) -> u64
@@ -30,7 +36,12 @@ pub trait Batch {
 
     /// Appends the chunk of the entry at an index. The error is that memory was refused; then the text has grown by any
     /// bytes.
-    fn put_entry(&self, index: usize, text: &mut Vec<u8>) -> Result<(), AllocError>
+    fn put_entry(
+        &self,
+        index: usize,
+        buffers: &mut Self::Buffers,
+        text: &mut Vec<u8>,
+    ) -> Result<(), AllocError>
         requires { index < length (batch self.now).chunks }
         ensures { OnOk result (text.new.items ≡ text.old.items ++ slice_index_or (batch self.now).chunks index []) };
 }
@@ -49,12 +60,13 @@ pub(crate) fn put_head_of<B: Batch>(batch: &B, text: &mut Vec<u8>) -> Result<(),
 pub(crate) fn put_entry_of<B: Batch>(
     batch: &B,
     index: usize,
+    buffers: &mut B::Buffers,
     text: &mut Vec<u8>,
 ) -> Result<(), ErrorKind>
     requires { index < length (B.batch batch.now).chunks }
     ensures { OnOk result (text.new.items ≡ text.old.items ++ slice_index_or (B.batch batch.now).chunks index []) }
 {
-    match batch.put_entry(index, text) {
+    match batch.put_entry(index, buffers, text) {
         Ok(()) => Ok(()),
         Err(_) => Err(ErrorKind::OutOfMemory),
     }

@@ -21,6 +21,8 @@ pub struct PlainBatch {
 impl Batch for PlainBatch {
     ghost use Rattle.std.specs.Prelude.{[]};
 
+    type Buffers = ();
+
     ghost batch = { λ b. record { first = 0; head = []; chunks = [] } };
 
     fn first(&self) -> u64 {
@@ -35,7 +37,14 @@ impl Batch for PlainBatch {
         put_line(text, "head", self.first, 0)
     }
 
-    fn put_entry(&self, index: usize, text: &mut Vec<u8>) -> Result<(), AllocError> {
+    fn buffers(&self) {}
+
+    fn put_entry(
+        &self,
+        index: usize,
+        _buffers: &mut (),
+        text: &mut Vec<u8>,
+    ) -> Result<(), AllocError> {
         let number = self.first.saturating_add(index as u64);
         put_line(text, "entry", number, self.length)
     }

@@ -17,6 +17,18 @@ struct FewWaits<'a> {
     lost: AtomicU64,
 }
 
+impl<'a> FewWaits<'a> {
+    /// It sets the flag at its third wait.
+    fn new(over: &'a AtomicBool) -> FewWaits<'a> {
+        FewWaits {
+            left: AtomicU64::new(3),
+            over,
+            written: AtomicU64::new(0),
+            lost: AtomicU64::new(0),
+        }
+    }
+}
+
 impl RecordPace for FewWaits<'_> {
     fn wait(&self, counts: RecorderCounts, most_ms: u64) {
         self.written.fetch_add(counts.entries, SeqCst);
@@ -33,12 +45,7 @@ fn until_over(rt: HostRuntime) -> Result<(), Fail> {
     let mut folder = MemoryFolder::new(rt.alloc());
     let mut recorder = Recorder::new(rt.alloc(), 1);
     let over = AtomicBool::new(false);
-    let pace = FewWaits {
-        left: AtomicU64::new(3),
-        over: &over,
-        written: AtomicU64::new(0),
-        lost: AtomicU64::new(0),
-    };
+    let pace = FewWaits::new(&over);
     let mut source = PlainBatch {
         first: 0,
         count: 2,
@@ -79,6 +86,8 @@ struct RefusingSource {
 impl Batch for RefusingSource {
     ghost use Rattle.std.specs.Prelude.{[]};
 
+    type Buffers = ();
+
     ghost batch = { λ s. record { first = 0; head = []; chunks = [] } };
 
     fn first(&self) -> u64 {
@@ -93,8 +102,15 @@ impl Batch for RefusingSource {
         self.batch.put_head(text)
     }
 
-    fn put_entry(&self, index: usize, text: &mut Vec<u8>) -> Result<(), AllocError> {
-        self.batch.put_entry(index, text)
+    fn buffers(&self) {}
+
+    fn put_entry(
+        &self,
+        index: usize,
+        buffers: &mut (),
+        text: &mut Vec<u8>,
+    ) -> Result<(), AllocError> {
+        self.batch.put_entry(index, buffers, text)
     }
 }
 
@@ -159,12 +175,7 @@ fn recorded(alloc: Global, row: &Row) -> (bool, u64, Vec<u8>) {
     folder.fails_to = fails_to;
     let mut recorder = Recorder::new(alloc, 1);
     let over = AtomicBool::new(false);
-    let pace = FewWaits {
-        left: AtomicU64::new(3),
-        over: &over,
-        written: AtomicU64::new(0),
-        lost: AtomicU64::new(0),
-    };
+    let pace = FewWaits::new(&over);
     let mut source = RefusingSource {
         batch: PlainBatch {
             first: 0,
