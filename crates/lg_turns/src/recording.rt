@@ -8,13 +8,22 @@ use crate::changes::ChangeSignal;
 use crate::shared::Shared;
 use lg_agent::{AgentName, Pass};
 use lg_clock::Clock;
+use lg_timing::Moment;
 use std::rt;
 use std::sync::Wait;
 use std::sync::atomic::Ordering::SeqCst;
 use std::sync::atomic::{AtomicBool, AtomicU64};
 
-/// By which a recorder is woken: when many calls were answered since it was woken last, and when the node has ended.
-/// Threads share it by reference. No call allocates.
+/// How long after the first call that it hasn't recorded yet a recorder is woken by another one, in milliseconds (this
+/// project's choice). It is less than a recorder waits by itself: on many virtual machines a wait that ends by its own
+/// time takes far more of the processor's time than one that another thread ends.
+const WAKE_MS: u64 = 800;
+
+/// The moment of no call: a node's clock never shows it.
+const NEVER_MS: u64 = u64::MAX;
+
+/// By which a recorder is woken: when many calls were answered, when the first that it hasn't recorded is a while ago,
+/// and when the node has ended. Threads share it by reference. No call allocates.
 #[derive(Drop)]
 pub struct RecorderSignal {
     woken: ChangeSignal,
@@ -22,6 +31,8 @@ pub struct RecorderSignal {
     calls: AtomicU64,
     /// After how many calls the recorder is woken, at least 1.
     every: u64,
+    /// At which moment of the node's clock the first call was answered since the recorder woke last, in milliseconds.
+    first_ms: AtomicU64,
     /// Whether the node has ended.
     ended: AtomicBool,
 }
@@ -34,16 +45,31 @@ impl RecorderSignal {
             woken: ChangeSignal::new(),
             calls: AtomicU64::new(0),
             every: (history_limit / 4).max(1),
+            first_ms: AtomicU64::new(NEVER_MS),
             ended: AtomicBool::new(false),
         }
     }
 
-    /// A call was answered.
-    pub fn note<R: Wait>(&self, rt: &R) {
+    /// A call was answered at a moment. `is_last` says whether the loop that made it waits next: the recorder needs the
+    /// lock that the loop's next call would need too.
+    pub fn note<R: Wait>(&self, rt: &R, now: Moment, is_last: bool) {
         let every = self.every.max(1);
-        if self.calls.fetch_add(1, SeqCst) % every == every - 1 {
+        let is_many = self.calls.fetch_add(1, SeqCst) % every == every - 1;
+        let is_late = self.is_late(now);
+        if is_many || (is_late && is_last) {
             self.woken.set(rt);
         }
+    }
+
+    /// Whether the first call since the recorder woke last is a while ago. If there was none, this one is the first.
+    fn is_late(&self, now: Moment) -> bool {
+        let now_ms = now.milliseconds();
+        let first_ms = self.first_ms.load(SeqCst);
+        if first_ms == NEVER_MS {
+            self.first_ms.store(now_ms, SeqCst);
+            return false;
+        }
+        now_ms.saturating_sub(first_ms) >= WAKE_MS
     }
 
     /// The node has ended: its recorder is to record what is left, and to end.
@@ -61,6 +87,7 @@ impl RecorderSignal {
     /// wait.
     pub fn wait_at_most<R: Wait + rt::Clock>(&self, rt: &R, ms: u64) {
         self.woken.wait_at_most(rt, ms);
+        self.first_ms.store(NEVER_MS, SeqCst);
     }
 }
 

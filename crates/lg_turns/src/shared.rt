@@ -73,7 +73,7 @@ impl<'a, R: Wait, C> Shared<'a, R, C> {
     pub fn note(&self, now: Moment, reply: &Reply, noted: &Noted) {
         self.counters.note(now, noted);
         if let Some(recorder) = self.recorder {
-            recorder.note(self.rt);
+            recorder.note(self.rt, now, reply.next > now.milliseconds());
         }
         if reply.changed.len() == 0 && reply.forgotten.len() == 0 {
             return;

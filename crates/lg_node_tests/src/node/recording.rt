@@ -145,11 +145,11 @@ fn waited<R: Wait + Clock>(rt: &R, signal: &RecorderSignal, ms: u64) -> Result<u
 #[test]
 fn signal_wakes_at_a_quarter(rt: HostRuntime) -> Result<(), Fail> {
     let signal = RecorderSignal::new(8);
-    signal.note(&rt);
-    signal.note(&rt);
+    signal.note(&rt, at(0), true);
+    signal.note(&rt, at(0), true);
     let woken = waited(&rt, &signal, LONG_MS)?;
     assert!(rt; woken < LONG_MS, "{woken}");
-    signal.note(&rt);
+    signal.note(&rt, at(0), true);
     let unwoken = waited(&rt, &signal, SHORT_MS)?;
     assert!(rt; unwoken >= SHORT_MS, "{unwoken}");
     assert!(rt; !signal.has_ended().load(SeqCst));
@@ -157,5 +157,28 @@ fn signal_wakes_at_a_quarter(rt: HostRuntime) -> Result<(), Fail> {
     let ended = waited(&rt, &signal, LONG_MS)?;
     assert!(rt; ended < LONG_MS, "{ended}");
     assert!(rt; signal.has_ended().load(SeqCst));
+    Ok(())
+}
+
+/// What is noted behind a first call at 100 ms: when a call was answered, whether its loop waits next, and whether that
+/// wakes the recorder.
+const NOTED: [(u64, bool, bool); 4] = [
+    (899, true, false),
+    (900, false, false),
+    (900, true, true),
+    (5000, true, true),
+];
+
+/// A recorder is woken by a call 800 ms or more after the first call since it woke last, if the loop waits next.
+#[test]
+fn signal_wakes_after_a_while(rt: HostRuntime) -> Result<(), Fail> {
+    let signal = RecorderSignal::new(1000);
+    for (now, is_last, is_woken) in NOTED {
+        signal.note(&rt, at(100), true);
+        signal.note(&rt, at(now), is_last);
+        let most_ms = if is_woken { LONG_MS } else { SHORT_MS };
+        let woken = waited(&rt, &signal, most_ms)? < most_ms;
+        assert_eq!(rt; woken, is_woken, "{now}");
+    }
     Ok(())
 }
