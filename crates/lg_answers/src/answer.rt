@@ -137,8 +137,9 @@ fn route_answer(
 /// configuration that runs. It is made at once: to wait for a change is the caller's, who finds by
 /// [`wait_of`](crate::wait_of) how long.
 ///
-/// What a recording tells isn't read here: a request for it is answered as by a node that doesn't record. A caller whose
-/// node records finds such a request by [`route_of`], as [`Route::Explain`], and answers it by [`explained_answer`].
+/// What a recording tells isn't read here: a request for it is answered as by a node that doesn't record. A caller
+/// whose node records finds such a request by [`route_of`], as [`Route::Explain`], and answers it by
+/// [`explained_answer`].
 ///
 /// The status is 200; 404 if the path or the member is unknown, or a recording is asked for; 405 if the path takes POST
 /// alone; 400 if the name or the query is faulty; and 503 for the health if this member is ousted. The body of a fault

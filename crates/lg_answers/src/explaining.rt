@@ -59,8 +59,8 @@ fn told_body(alloc: Global, accounts: &[u8]) -> Result<Vec<u8>, AllocError>
 ///
 /// It is 404 if the node doesn't record, 503 if its recording can't be read, each with the fault in words, and else 200
 /// with [`MISSING_MS`] and the accounts: `{"missing_ms":1000,"explained":ACCOUNTS}`. The newline at the end of the
-/// accounts is left out, and nothing else of them is looked at. Memory is allocated for the body. The only error is that
-/// it was refused.
+/// accounts is left out, and nothing else of them is looked at. Memory is allocated for the body. The only error is
+/// that it was refused.
 pub fn explained_answer(alloc: Global, explained: &Explained) -> Result<HttpAnswer, AllocError>
     ensures { IfOk result (λ answer. answer_value answer ≡ explained_answer explained.now) }
 {

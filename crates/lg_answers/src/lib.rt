@@ -4,7 +4,8 @@
 //! [`answer_to`] makes the answer to a request, from a [`Snapshot`], the [`Changes`] that are kept, and the
 //! [`ShownConfig`]. [`route_of`] says which route a request has, and [`wait_of`] what it waits for. What a recording
 //! tells of a member is answered by [`explained_answer`]. What comes of a request to leave says [`leave_reply`].
-//! `specs/Meaning` defines each route and each body, and the files there whose names end in `Examples` have worked ones.
+//! `specs/Meaning` defines each route and each body, and the files there whose names end in `Examples` have worked
+//! ones.
 #![tactic(auto)]
 
 mod answer;

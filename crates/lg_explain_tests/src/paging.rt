@@ -68,6 +68,18 @@ fn recorded_path(rt: &HostRuntime, name: &str) -> Result<String, Fail> {
     Ok(path)
 }
 
+/// Writes a page of `b`, as it was at a moment, into the file `b.html`. Gives the status.
+fn written_page<const N: usize>(
+    rt: &HostRuntime,
+    folder: &str,
+    at: u64,
+    files: &mut MemoryFiles,
+    faults: &mut FaultRow<N>,
+) -> u8 {
+    let asked = question(at, false);
+    explain_page(rt, rt.alloc(), folder, &asked, "b.html", files, faults)
+}
+
 /// The page that is due of `b` by the recording in a folder.
 fn due_page(rt: &HostRuntime, folder: &str) -> Result<Vec<u8>, Fail> {
     let asked = question(MAX_MOMENT, false);
@@ -85,27 +97,9 @@ fn hands_the_page_to_its_file(rt: HostRuntime) -> Result<(), Fail> {
     let due = due_page(&rt, &folder)?;
     let mut files = MemoryFiles::new(rt.alloc(), None);
     let mut faults = FaultRow::<100>::empty();
-    let asked = question(MAX_MOMENT, false);
-    let status = explain_page(
-        &rt,
-        rt.alloc(),
-        &folder,
-        &asked,
-        "b.html",
-        &mut files,
-        &mut faults,
-    );
-    let early = question(0, false);
+    let status = written_page(&rt, &folder, MAX_MOMENT, &mut files, &mut faults);
     let mut early_files = MemoryFiles::new(rt.alloc(), None);
-    let none = explain_page(
-        &rt,
-        rt.alloc(),
-        &folder,
-        &early,
-        "b.html",
-        &mut early_files,
-        &mut faults,
-    );
+    let none = written_page(&rt, &folder, 0, &mut early_files, &mut faults);
     fs::remove_dir_all(&rt, folder.as_str())?;
     assert_eq!(rt; (status, files.writes), (0, 1));
     assert!(rt; files.path.as_str() == "b.html" && files.text.as_slice() == due.as_slice());
@@ -118,16 +112,7 @@ fn hands_the_page_to_its_file(rt: HostRuntime) -> Result<(), Fail> {
 fn told_of(rt: &HostRuntime, folder: &str, kind: ErrorKind) -> Result<(Vec<u8>, bool), Fail> {
     let mut files = MemoryFiles::new(rt.alloc(), Some(kind));
     let mut faults = FaultRow::<100>::empty();
-    let asked = question(MAX_MOMENT, false);
-    let status = explain_page(
-        rt,
-        rt.alloc(),
-        folder,
-        &asked,
-        "b.html",
-        &mut files,
-        &mut faults,
-    );
+    let status = written_page(rt, folder, MAX_MOMENT, &mut files, &mut faults);
     let told = Vec::from_slice(rt.alloc(), faults.text())?;
     Ok((told, status == 1 && files.writes == 1))
 }
@@ -164,16 +149,7 @@ fn leaves_the_file_if_the_folder_is_not_read(rt: HostRuntime) -> Result<(), Fail
     fs::remove_dir_all(&rt, folder.as_str())?;
     let mut files = MemoryFiles::new(rt.alloc(), None);
     let mut faults = FaultRow::<200>::empty();
-    let asked = question(MAX_MOMENT, false);
-    let status = explain_page(
-        &rt,
-        rt.alloc(),
-        &folder,
-        &asked,
-        "b.html",
-        &mut files,
-        &mut faults,
-    );
+    let status = written_page(&rt, &folder, MAX_MOMENT, &mut files, &mut faults);
     assert_eq!(rt; (status, files.writes), (1, 0));
     assert!(rt; faults.text().starts_with(b"lg: read\n"));
     Ok(())

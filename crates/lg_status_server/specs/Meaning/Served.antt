@@ -20,8 +20,9 @@ SiteRepliesTo hosts =
     Replies IsAnswerOf IsActOf (λ site. site.changed) (λ path query wait. wait ≡ wait_of path query) hosts
 
 -- A status server served a site from its first look on, whose node may be asked to leave or may not, and has its
--- recording in this folder if it has one: the site went on from there, and its pass is what is left of it. If the server's slots were free, each request was answered from a
--- state that the site had on the way, those of connections that have ended too.
+-- recording in this folder if it has one: the site went on from there, and its pass is what is left of it. If the
+-- server's slots were free, each request was answered from a state that the site had on the way, those of connections
+-- that have ended too.
 pub record HasServedSite
     (name : List ℕ) (config : ShownConfig) (leave : Bool) (folder : Option (List ℕ)) (hosts : Hosts)
     (before after : PassValue) (server server' : Server)
