@@ -140,7 +140,8 @@ impl<T: Drop, const N: usize> Rows<T, N> {
 }
 
 impl<T: Copy + Default, const N: usize> Rows<T, N> {
-    /// Overwrites another row by this one, in place. Copies the places that were ever used. Allocates no memory.
+    /// Overwrites another row by this one, in place. Copies all numbers of places, and of the items' places those that
+    /// were ever used. Allocates no memory.
     pub fn copy_into(&self, into: &mut Self)
         ensures { into.new.items ≡ self.now.items }
     {

@@ -50,13 +50,13 @@ impl RecorderSignal {
         }
     }
 
-    /// A call was answered at a moment. `is_last` says whether the loop that made it waits next: the recorder needs the
-    /// lock that the loop's next call would need too.
-    pub fn note<R: Wait>(&self, rt: &R, now: Moment, is_last: bool) {
+    /// A call was answered at a moment. `is_rest` says that no timer of the detector is due after it. While one is, the
+    /// ticking loop's next call needs the lock that the recorder needs too, so a call that is only late doesn't wake it.
+    pub fn note<R: Wait>(&self, rt: &R, now: Moment, is_rest: bool) {
         let every = self.every.max(1);
         let is_many = self.calls.fetch_add(1, SeqCst) % every == every - 1;
         let is_late = self.is_late(now);
-        if is_many || (is_late && is_last) {
+        if is_many || (is_late && is_rest) {
             self.woken.set(rt);
         }
     }

@@ -62,7 +62,8 @@ pub struct Shared<'a, R, C> {
     pub deadlines: &'a DeadlineSignal,
     /// Which addresses the hosts among the seeds were found to have.
     pub resolved: &'a ResolvedSeeds,
-    /// By which the recorder, if the node is recorded, is woken when many calls were answered.
+    /// By which the recorder, if the node is recorded, is woken: when many calls were answered, when the first that it
+    /// hasn't recorded is a while ago, and when the node has ended.
     pub recorder: Option<&'a RecorderSignal>,
 }
 
