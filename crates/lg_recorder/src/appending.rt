@@ -87,12 +87,13 @@ impl Progress {
     }
 }
 
-/// Appends the entries of a batch. The error is the folder's, or refused memory, and then `progress` says how many
-/// entries are appended.
+/// Appends the entries of a batch, written with these buffers. The error is the folder's, or refused memory, and then
+/// `progress` says how many entries are appended.
 pub(crate) fn append_each<F: RecordFolder, B: Batch>(
     text: &mut Vec<u8>,
     folder: &mut F,
     batch: &B,
+    buffers: &mut B::Buffers,
     progress: &mut Progress,
 ) -> Result<(), ErrorKind>
     requires { progress.old.entries ≡ 0 }
@@ -101,9 +102,8 @@ pub(crate) fn append_each<F: RecordFolder, B: Batch>(
         (F.past folder.new) progress.new (length (B.batch batch.now).chunks) }
 {
     text.clear();
-    let mut buffers = batch.buffers();
     for index in 0..batch.len() {
-        put_entry_of(batch, index, &mut buffers, text)?;
+        put_entry_of(batch, index, buffers, text)?;
         progress.append_piece(text, folder, index + 1)?;
     }
     progress.append(text, folder, batch.len())?;

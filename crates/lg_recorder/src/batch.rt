@@ -12,7 +12,8 @@ pub trait Batch {
     ghost use Rattle.std.specs.Prelude.{◌≡◌, ◌<◌, ◌++◌, [], length, slice_index_or, OnOk};
     ghost use Rattle.lg_recorder.specs.Meaning.Batches.{BatchValue};
 
-    /// What entries are written with, besides the text. It is kept from one entry to the next.
+    /// What entries are written with, besides the text. It is kept from one entry to the next, and from one batch to
+    /// the next.
     type Buffers: Drop;
 
     // The number of its first entry, the bytes of the head of a file that begins with it, and those of each entry.

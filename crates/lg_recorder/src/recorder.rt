@@ -260,6 +260,7 @@ impl Recorder {
         &mut self,
         folder: &mut F,
         batch: &B,
+        buffers: &mut B::Buffers,
         file: OpenFile,
     ) -> Result<(), RecordFault>
         requires { self.old.current ≡ None }
@@ -278,7 +279,7 @@ impl Recorder {
     {
         let len = batch.len();
         let mut progress = Progress::new(file.left);
-        match append_each(&mut self.text, folder, batch, &mut progress) {
+        match append_each(&mut self.text, folder, batch, buffers, &mut progress) {
             Ok(()) => {
                 self.counts.note_written(len, progress.bytes);
                 self.current = behind(file, batch.first(), len, progress.left);
@@ -303,12 +304,13 @@ impl Recorder {
     ///
     /// The error is that entries weren't written: the folder failed, or memory was refused. The file is closed then,
     /// and the next batch begins a new one. Entries of the batch that were appended by then stay. A file that has
-    /// nothing but a head is deleted. Memory is allocated for the list of the files and for the text of a piece, and
-    /// kept.
+    /// nothing but a head is deleted. What the buffers hold before or after doesn't matter. Memory is allocated for the
+    /// list of the files and for the text of a piece, and kept, and by the buffers.
     pub fn record<F: RecordFolder, B: Batch>(
         &mut self,
         folder: &mut F,
         batch: &B,
+        buffers: &mut B::Buffers,
     ) -> Result<(), RecordFault>
         ensures holds { F.tells ≡ true → (batches : List BatchValue)
             → Holds self.old.size batches (F.past folder.old) self.old.current
@@ -331,7 +333,7 @@ impl Recorder {
             return Ok(());
         }
         match self.file_for(folder, batch) {
-            Ok(file) => self.append_to(folder, batch, file),
+            Ok(file) => self.append_to(folder, batch, buffers, file),
             Err(kind) => Err(self.lose(0, 0, len, kind)),
         }
     }

@@ -60,13 +60,14 @@ pub trait RecordPace {
     fn wait(&self, counts: RecorderCounts, most_ms: u64);
 }
 
-/// Takes a batch and writes it. A fault is reported, if it is the first since a batch was written whole. Gives whether
-/// the batch was taken.
+/// Takes a batch and writes it with these buffers. A fault is reported, if it is the first since a batch was written
+/// whole. Gives whether the batch was taken.
 fn take_and_record<F: RecordFolder, O, S: BatchSource<O>, T: FaultStream>(
     recorder: &mut Recorder,
     folder: &mut F,
     source: &mut S,
     origin: &mut O,
+    buffers: &mut S::Buffers,
     faults: &mut T,
 ) -> bool
     ensures holds { F.tells ≡ true → (batches : List BatchValue)
@@ -83,7 +84,7 @@ fn take_and_record<F: RecordFolder, O, S: BatchSource<O>, T: FaultStream>(
     if !source.take(origin) {
         return false;
     }
-    if let Err(fault) = recorder.record(folder, source) {
+    if let Err(fault) = recorder.record(folder, source, buffers) {
         if fault.is_first {
             report(faults, fault.line());
         }
@@ -108,6 +109,7 @@ fn finish<F: RecordFolder, O, S: BatchSource<O>, T: FaultStream>(
     folder: &mut F,
     source: &mut S,
     origin: &mut O,
+    buffers: &mut S::Buffers,
     faults: &mut T,
 ) -> bool
     ensures holds { F.tells ≡ true → (batches : List BatchValue)
@@ -121,7 +123,7 @@ fn finish<F: RecordFolder, O, S: BatchSource<O>, T: FaultStream>(
     ensures told { result ≡ false
         → Reports (T.reported faults.old) (T.reported faults.new) (record_fault_line NoMemoryLeft) }
 {
-    let is_taken = take_and_record(recorder, folder, source, origin, faults);
+    let is_taken = take_and_record(recorder, folder, source, origin, buffers, faults);
     recorder.close(folder);
     report_untaken(is_taken, faults);
     is_taken
@@ -156,12 +158,13 @@ pub fn record_until<F: RecordFolder, O, S: BatchSource<O>, P: RecordPace, T: Fau
     ensures told { result ≡ false → (before : Reported)
         × Reports before (T.reported faults.new) (record_fault_line NoMemoryLeft) }
 {
+    let mut buffers = source.buffers();
     for _ in 0..u64::MAX {
         if over.load(SeqCst) {
             break;
         }
-        take_and_record(recorder, folder, source, origin, faults);
+        take_and_record(recorder, folder, source, origin, &mut buffers, faults);
         pace.wait(recorder.counts(), RECORD_MS);
     }
-    finish(recorder, folder, source, origin, faults)
+    finish(recorder, folder, source, origin, &mut buffers, faults)
 }

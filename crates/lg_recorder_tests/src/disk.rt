@@ -44,8 +44,14 @@ fn two_lives(rt: HostRuntime) -> Result<(), Fail> {
     for first in [0, 7] {
         let mut folder = DiskFolder::new(rt, rt.alloc(), String::from_str(rt.alloc(), path)?);
         let mut recorder = Recorder::new(rt.alloc(), 1);
-        assert_eq!(rt; recorder.record(&mut folder, &batch(first, 3)), Ok(()));
-        assert_eq!(rt; recorder.record(&mut folder, &batch(first + 3, 2)), Ok(()));
+        assert_eq!(rt;
+            recorder.record(&mut folder, &batch(first, 3), &mut ()),
+            Ok(())
+        );
+        assert_eq!(rt;
+            recorder.record(&mut folder, &batch(first + 3, 2), &mut ()),
+            Ok(())
+        );
         recorder.close(&mut folder);
     }
     let mut listed = Vec::new(rt.alloc());
@@ -88,7 +94,7 @@ fn lost_folder(rt: HostRuntime) -> Result<(), Fail> {
     let mut folder = DiskFolder::new(rt, rt.alloc(), String::from_str(rt.alloc(), path)?);
     let mut recorder = Recorder::new(rt.alloc(), 1);
     for is_first in [true, false] {
-        let recorded = recorder.record(&mut folder, &batch(0, 3));
+        let recorded = recorder.record(&mut folder, &batch(0, 3), &mut ());
         assert_eq!(rt;
             recorded,
             Err(RecordFault {
@@ -98,7 +104,7 @@ fn lost_folder(rt: HostRuntime) -> Result<(), Fail> {
         );
     }
     fs::create_dir(&rt, path)?;
-    assert_eq!(rt; recorder.record(&mut folder, &batch(3, 3)), Ok(()));
+    assert_eq!(rt; recorder.record(&mut folder, &batch(3, 3), &mut ()), Ok(()));
     assert_eq!(rt; recorder.counts().lost, 6);
     fs::remove_dir_all(&rt, path)?;
     Ok(())

@@ -40,10 +40,13 @@ fn grow(told: &[u64]) -> bool {
 fn one_file(rt: HostRuntime) -> Result<(), Fail> {
     let mut folder = MemoryFolder::new(rt.alloc());
     let mut recorder = Recorder::new(rt.alloc(), 64);
-    assert_eq!(rt; recorder.record(&mut folder, &batch(0, 0)), Ok(()));
+    assert_eq!(rt; recorder.record(&mut folder, &batch(0, 0), &mut ()), Ok(()));
     assert_eq!(rt; folder.calls, 0);
     for (first, count) in [(0, 3), (3, 0), (3, 1), (4, 2000)] {
-        assert_eq!(rt; recorder.record(&mut folder, &batch(first, count)), Ok(()));
+        assert_eq!(rt;
+            recorder.record(&mut folder, &batch(first, count), &mut ()),
+            Ok(())
+        );
     }
     assert_eq!(rt; numbers(rt.alloc(), &folder)?.as_slice(), [1].as_slice());
     let told = told_in(rt.alloc(), &folder).ok_or("faulty")?;
@@ -64,7 +67,10 @@ fn gaps(rt: HostRuntime) -> Result<(), Fail> {
     let mut folder = MemoryFolder::new(rt.alloc());
     let mut recorder = Recorder::new(rt.alloc(), 64);
     for (first, count) in [(0, 3), (5, 2), (7, 1), (100, 1)] {
-        assert_eq!(rt; recorder.record(&mut folder, &batch(first, count)), Ok(()));
+        assert_eq!(rt;
+            recorder.record(&mut folder, &batch(first, count), &mut ()),
+            Ok(())
+        );
     }
     let told = told_in(rt.alloc(), &folder).ok_or("faulty")?;
     assert_eq!(rt; told.as_slice(), [0, 1, 2, 5, 6, 7, 100].as_slice());
@@ -82,7 +88,7 @@ fn sizes(rt: HostRuntime) -> Result<(), Fail> {
     let mut recorder = Recorder::new(rt.alloc(), 1);
     for index in 0..300u64 {
         assert_eq!(rt;
-            recorder.record(&mut folder, &batch(index * 100, 100)),
+            recorder.record(&mut folder, &batch(index * 100, 100), &mut ()),
             Ok(())
         );
         assert!(rt; folder.size() <= 1_010_000, "{index}");
@@ -108,12 +114,18 @@ fn earlier_life(rt: HostRuntime) -> Result<(), Fail> {
         folder.put(number, size)?;
     }
     let mut recorder = Recorder::new(rt.alloc(), 1);
-    assert_eq!(rt; recorder.record(&mut folder, &batch(0, 2000)), Ok(()));
+    assert_eq!(rt;
+        recorder.record(&mut folder, &batch(0, 2000), &mut ()),
+        Ok(())
+    );
     assert_eq!(rt;
         numbers(rt.alloc(), &folder)?.as_slice(),
         [3, 7, 8, 9].as_slice()
     );
-    assert_eq!(rt; recorder.record(&mut folder, &batch(2000, 1)), Ok(()));
+    assert_eq!(rt;
+        recorder.record(&mut folder, &batch(2000, 1), &mut ()),
+        Ok(())
+    );
     assert_eq!(rt;
         numbers(rt.alloc(), &folder)?.as_slice(),
         [7, 8, 9, 10].as_slice()
@@ -141,7 +153,7 @@ fn play(rt: &impl Abort, alloc: Global, folder: &mut MemoryFolder) -> Result<boo
     let mut has_failed = false;
     let mut is_failing = false;
     for (first, count) in PLAYED {
-        match recorder.record(folder, &long_batch(first, count)) {
+        match recorder.record(folder, &long_batch(first, count), &mut ()) {
             Ok(()) => is_failing = false,
             Err(fault) => {
                 assert_eq!(rt; fault.is_first, !is_failing);
@@ -187,11 +199,11 @@ fn failures(rt: HostRuntime) -> Result<(), Fail> {
 fn told_once(rt: HostRuntime) -> Result<(), Fail> {
     let mut folder = MemoryFolder::new(rt.alloc());
     let mut recorder = Recorder::new(rt.alloc(), 1);
-    assert_eq!(rt; recorder.record(&mut folder, &batch(0, 1)), Ok(()));
+    assert_eq!(rt; recorder.record(&mut folder, &batch(0, 1), &mut ()), Ok(()));
     let mut told = Vec::new(rt.alloc());
     for (first, fails_to) in [(1, 1000), (2, 1000), (3, 0), (4, 1000), (5, 1000)] {
         folder.fails_to = fails_to;
-        match recorder.record(&mut folder, &batch(first, 1)) {
+        match recorder.record(&mut folder, &batch(first, 1), &mut ()) {
             Ok(()) => told.push("")?,
             Err(fault) if fault.is_first => told.push(fault.line())?,
             Err(_) => told.push("silent")?,
@@ -214,7 +226,7 @@ fn greatest_number(rt: HostRuntime) -> Result<(), Fail> {
     let mut folder = MemoryFolder::new(rt.alloc());
     folder.put(9_999_999_999, 1)?;
     let mut recorder = Recorder::new(rt.alloc(), 1);
-    let recorded = recorder.record(&mut folder, &batch(0, 1));
+    let recorded = recorder.record(&mut folder, &batch(0, 1), &mut ());
     assert_eq!(rt;
         recorded.map_err(|fault| fault.kind),
         Err(ErrorKind::InvalidFilename)
