@@ -22,7 +22,7 @@ pub const MAX_NEWEST_BYTES: u64 = 16_777_216;
 /// The newest files of a recording in a folder of the machine: as many of the last ones as have at most
 /// [`MAX_NEWEST_BYTES`] together.
 #[derive(Drop)]
-struct NewestFiles<'p, R> {
+struct NewestFiles<'p, R: Files> {
     alloc: Global,
     folder: DiskFolder<R>,
     files: DiskFiles<'p, R>,

@@ -8,10 +8,10 @@ ghost use Rattle.lg_recorder.specs.Meaning.FileNames.{number_of_name};
 use crate::folder::{RecordFolder, StoredFile};
 use lg_text::number_in;
 use std::alloc::{AllocError, Global};
-use std::fs::{DirEntry, Files, OpenOptions, read_dir, remove_file};
+use std::fs::{DirEntry, Files, OpenFile, OpenOptions, read_dir, remove_file};
 use std::io;
 use std::io::{ErrorKind, Write};
-use std::os::unix::fs::OpenOptionsExt;
+use std::os::unix::fs::{MetadataExt, OpenOptionsExt};
 
 /// What a file's name ends in.
 const ENDING: &[u8; 4] = b".lgr";
@@ -33,15 +33,15 @@ pub fn number_of_name(name: &[u8]) -> Option<u64>
     number_in(&name[..10])
 }
 
-/// A folder of the machine. A file's name is ten digits and `.lgr`; other names are passed over. A file is opened for
-/// each piece that is appended, so that one that was taken away is missed at once.
+/// A folder of the machine. A file's name is ten digits and `.lgr`; other names are passed over. If the open file was
+/// deleted meanwhile, the next append says that it isn't there. If its folder was renamed, it goes on where it lies.
 #[derive(Drop)]
-pub struct DiskFolder<R> {
+pub struct DiskFolder<R: Files> {
     rt: R,
     alloc: Global,
     path: String,
-    /// The number of the open file.
-    open: Option<u64>,
+    /// The open file.
+    open: Option<R::File>,
 }
 
 impl<R: Files + Drop> DiskFolder<R> {
@@ -62,22 +62,22 @@ impl<R: Files + Drop> DiskFolder<R> {
     }
 
     /// Makes a new file.
-    fn create(&self, number: u64) -> io::Result<()> {
+    fn create(&self, number: u64) -> io::Result<R::File> {
         let path = self.path_of(number)?;
         OpenOptions::new()
-            .write(true)
+            .append(true)
             .create_new(true)
             .mode(MODE)
-            .open(&self.rt, path)?;
-        Ok(())
+            .open(&self.rt, path)
     }
+}
 
-    /// Appends bytes to a file that is there.
-    fn append_to(&self, number: u64, bytes: &[u8]) -> io::Result<()> {
-        let path = self.path_of(number)?;
-        let mut file = OpenOptions::new().append(true).open(&self.rt, path)?;
-        file.write_all(bytes)
+/// Appends bytes to an open file, if it has a name still.
+fn append_to<F: OpenFile + Write>(file: &mut F, bytes: &[u8]) -> io::Result<()> {
+    if file.metadata()?.nlink() == 0 {
+        return Err(io::Error::from(ErrorKind::NotFound));
     }
+    file.write_all(bytes)
 }
 
 /// The file of an entry of a folder, if its name is one of a file's.
@@ -128,8 +128,8 @@ impl<R: Files + AllocGlobal + Clone + Drop> RecordFolder for DiskFolder<R> {
     fn begin(&mut self, number: u64) -> Result<(), ErrorKind> {
         self.open = None;
         match self.create(number) {
-            Ok(()) => {
-                self.open = Some(number);
+            Ok(file) => {
+                self.open = Some(file);
                 Ok(())
             }
             Err(error) => Err(error.kind()),
@@ -137,9 +137,9 @@ impl<R: Files + AllocGlobal + Clone + Drop> RecordFolder for DiskFolder<R> {
     }
 
     fn append(&mut self, bytes: &[u8]) -> Result<(), ErrorKind> {
-        match self.open {
+        match &mut self.open {
             None => Err(ErrorKind::NotFound),
-            Some(number) => self.append_to(number, bytes).map_err(|error| error.kind()),
+            Some(file) => append_to(file, bytes).map_err(|error| error.kind()),
         }
     }
 

@@ -85,6 +85,34 @@ fn two_lives(rt: HostRuntime) -> Result<(), Fail> {
     Ok(())
 }
 
+/// The open file is deleted. That is a fault, the entries since then are lost, and the next batch begins a file.
+#[test]
+fn deleted_file(rt: HostRuntime) -> Result<(), Fail> {
+    let path = fresh_path(&rt, "deleted")?;
+    let path = path.as_str();
+    let mut folder = DiskFolder::new(rt, rt.alloc(), String::from_str(rt.alloc(), path)?);
+    let mut recorder = Recorder::new(rt.alloc(), 1);
+    assert_eq!(rt; recorder.record(&mut folder, &batch(0, 3), &mut ()), Ok(()));
+    fs::remove_file(&rt, format!(in rt.alloc(); "{path}/0000000001.lgr")?)?;
+    let recorded = recorder.record(&mut folder, &batch(3, 3), &mut ());
+    let kind = ErrorKind::NotFound;
+    assert_eq!(rt;
+        recorded,
+        Err(RecordFault {
+            kind,
+            is_first: true
+        })
+    );
+    assert_eq!(rt; recorder.record(&mut folder, &batch(6, 2), &mut ()), Ok(()));
+    assert_eq!(rt; recorder.counts().lost, 3);
+    recorder.close(&mut folder);
+    let file = format!(in rt.alloc(); "{path}/0000000002.lgr")?;
+    let told = told_by(rt.alloc(), &fs::read(&rt, file.as_str())?).ok_or("faulty")?;
+    assert_eq!(rt; told.as_slice(), [6, 7].as_slice());
+    fs::remove_dir_all(&rt, path)?;
+    Ok(())
+}
+
 /// A folder that isn't there is a fault, and once it is there the recording goes on.
 #[test]
 fn lost_folder(rt: HostRuntime) -> Result<(), Fail> {
