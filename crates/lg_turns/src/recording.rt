@@ -51,7 +51,7 @@ impl RecorderSignal {
     }
 
     /// A call was answered at a moment. `is_rest` says that no timer of the detector is due after it. While one is, the
-    /// ticking loop's next call needs the lock that the recorder needs too, so a call that is only late doesn't wake it.
+    /// ticking loop's next call needs the lock that the recorder needs too, so a late call alone doesn't wake it.
     pub fn note<R: Wait>(&self, rt: &R, now: Moment, is_rest: bool) {
         let every = self.every.max(1);
         let is_many = self.calls.fetch_add(1, SeqCst) % every == every - 1;
